@@ -1,0 +1,8 @@
+-- Bounded sums.
+-- Assumes nothing.
+use Prim.Native.Nat.{_+_, suc, zero, ℕ}
+
+-- f 0 + .. + f (n - 1)
+unfoldable pub sumTo : ℕ → (ℕ → ℕ) → ℕ
+sumTo zero f = 0
+sumTo (suc n) f = sumTo n f + f n
