@@ -1,0 +1,80 @@
+-- Laws of the bar and of the log, as a loop uses them.
+-- Assumes nothing.
+use Prim.Native.Nat.{_+_, _-_, _<_, _≤_, min, suc, zero, ℕ}
+use borrow.Author.Tests.{eq-eqb, le-ltb, lt-ltb, ne-eqb}
+use lib.Dec.{eqb, ltb}
+use lib.ListN.{getD, length, set}
+use lib.Seq.{getD-set-other, getD-set-same}
+use mathlib.Core.Bool.{Bool, false, true}
+use mathlib.Core.List.{List, [], _++_, _∷_, append-nil}
+use mathlib.Core.Path.{_∙_, _≡_, ap, ap₂, refl, sym}
+use native.Mathlib.Decide.{decLe, ℕ-discrete}
+use native.Mathlib.Nat.{le-refl}
+use native.Mathlib.Numerals.{add-one}
+use native.Mathlib.Omega.{arith}
+use Rattle.ordering.specs.Order.{ceilingOf, entryAt, keyOf, logTo, seek}
+use Rattle.ordering.specs.Table.{nextOf}
+use Rattle.sums.proofs.TestLaws.{pick-false, pick-true}
+use Rattle.sums.specs.Seq.{only}
+
+-- ---- what an instance allows, and its next key
+pub ceiling-some : (R : ℕ → ℕ → ℕ) (F : ℕ → ℕ) (j n r k : ℕ) → n ≡ F j → 0 < n → r ≡ R j (n - 1) → k ≡ keyOf r j → k + 16 ≡ ceilingOf R F j
+ceiling-some R F j n r k e h er ek =
+    let t : ltb 0 (F j) ≡ true = lt-ltb 0 (F j) (omega arith) in
+    let q : r ≡ R j (F j - 1) = er ∙ ap (λ (x : ℕ). R j (x - 1)) e in
+    omega (arith, pick-true (ltb 0 (F j)) (keyOf (R j (F j - 1)) j + 16) 0 t)
+
+pub ceiling-none : (R : ℕ → ℕ → ℕ) (F : ℕ → ℕ) (j n : ℕ) → n ≡ F j → n ≤ 0 → 0 ≡ ceilingOf R F j
+ceiling-none R F j n e h =
+    sym (pick-false (ltb 0 (F j)) (keyOf (R j (F j - 1)) j + 16) 0 (le-ltb 0 (F j) (omega arith)))
+
+pub next-some : (R : ℕ → ℕ → ℕ) (F : ℕ → ℕ) (b : ℕ) (C : ℕ → ℕ) (j n f r k : ℕ) → n ≡ C j → f ≡ F j → n < f → r ≡ R j n → k ≡ keyOf r j → k ≡ nextOf R F b C j
+next-some R F b C j n f r k en ef h er ek =
+    let t : ltb (C j) (F j) ≡ true = lt-ltb (C j) (F j) (omega arith) in
+    let q : r ≡ R j (C j) = er ∙ ap (R j) en in
+    omega (arith, pick-true (ltb (C j) (F j)) (keyOf (R j (C j)) j) b t)
+
+pub next-none : (R : ℕ → ℕ → ℕ) (F : ℕ → ℕ) (b : ℕ) (C : ℕ → ℕ) (j n f : ℕ) → n ≡ C j → f ≡ F j → f ≤ n → b ≡ nextOf R F b C j
+next-none R F b C j n f en ef h =
+    sym (pick-false (ltb (C j) (F j)) (keyOf (R j (C j)) j) b (le-ltb (C j) (F j) (omega arith)))
+
+-- ---- the log between two keys
+pub log-more : (m : ℕ) (R : ℕ → ℕ → ℕ) (F : ℕ → ℕ) (k : ℕ) → logTo m R F (k + 1) ≡ logTo m R F k ++ entryAt m R F k
+unfolding logTo
+log-more m R F k = rw add-one
+
+-- no block has a key from lo on, below lo + d
+quiet : (m : ℕ) (R : ℕ → ℕ → ℕ) (F : ℕ → ℕ) (lo d : ℕ) → ((x : ℕ) → lo ≤ x → x < lo + d → entryAt m R F x ≡ []) → logTo m R F (lo + d) ≡ logTo m R F lo
+quiet m R F lo zero h = ap (logTo m R F) (omega arith)
+quiet m R F lo (suc d) h =
+    let e : lo + suc d ≡ (lo + d) + 1 = omega arith in
+    ap (logTo m R F) e ∙ log-more m R F (lo + d) ∙ ap₂ _++_ (quiet m R F lo d (λ x a b. h x a (omega arith))) (h (lo + d) (omega arith) (omega arith)) ∙ append-nil (logTo m R F lo)
+
+pub log-quiet : (m : ℕ) (R : ℕ → ℕ → ℕ) (F : ℕ → ℕ) (lo hi : ℕ) → lo ≤ hi → ((x : ℕ) → lo ≤ x → x < hi → entryAt m R F x ≡ []) → logTo m R F hi ≡ logTo m R F lo
+log-quiet m R F lo hi l h =
+    let e : hi ≡ lo + (hi - lo) = omega arith in
+    ap (logTo m R F) e ∙ quiet m R F lo (hi - lo) (λ x a b. h x a (omega arith))
+
+-- ---- the places of a value in a row
+pub seek-none : (f : ℕ → ℕ) (r n : ℕ) → ((k : ℕ) → k < n → f k ≡ r → ⊥) → seek f r n ≡ []
+unfolding seek
+seek-none f r zero h = refl
+seek-none f r (suc n) h =
+    let e : eqb (f n) r ≡ false = ne-eqb (f n) r (h n (omega arith)) in
+    let ih : seek f r n ≡ [] = seek-none f r n (λ k l. h k (omega arith)) in
+    ap₂ (λ (l : List ℕ) (b : Bool). l ++ only b n) ih e
+
+-- a value that stands at p and nowhere else
+pub seek-one : (f : ℕ → ℕ) (r n p : ℕ) → p < n → f p ≡ r → ((k : ℕ) → k < n → f k ≡ r → k ≡ p) → seek f r n ≡ p ∷ []
+unfolding seek
+seek-one f r zero p l e u = absurd (omega arith)
+seek-one f r (suc n) p l e u = go (λ (q : p < n). seek-one f r n p q e (λ k a. u k (omega arith))) (ℕ-discrete p n)
+  where
+    go : (p < n → seek f r n ≡ p ∷ []) → Dec (p ≡ n) → seek f r n ++ only (eqb (f n) r) n ≡ p ∷ []
+    go ih (yes q) =
+        let t : eqb (f n) r ≡ true = eq-eqb (f n) r (ap f (sym q) ∙ e) in
+        let none : seek f r n ≡ [] = seek-none f r n (λ k a b. let w = u k (omega arith) b in omega arith) in
+        ap₂ (λ (l : List ℕ) (b : Bool). l ++ only b n) none t ∙ ap (λ (x : ℕ). x ∷ []) (sym q)
+    go ih (no q) =
+        let t : eqb (f n) r ≡ false = ne-eqb (f n) r (λ b. let w = u n (omega arith) b in q (sym w)) in
+        ap₂ (λ (l : List ℕ) (b : Bool). l ++ only b n) (ih (omega arith)) t

@@ -1,0 +1,9 @@
+-- Laws that the layers above cite.
+pub mod Laws
+pub mod Merge
+pub mod Usable
+pub mod Cong
+pub mod Prefix
+pub mod LogSum
+pub mod Whole
+pub mod Log

@@ -1,0 +1,174 @@
+// The order of blocks by (rank, instance): keys, the bar, and the global log.
+ghost use mathlib.Core.Path.{_≡_};
+ghost use Prim.Native.Nat.{_+_, _*_, min};
+ghost use lib.ListN.{getD, set, length};
+ghost use mathlib.Core.List.{map};
+ghost use Rattle.sums.specs.Seq.{fill};
+ghost use Rattle.ordering.specs.Order.{keyOf, ceilingOf, barOf, globalLog};
+ghost use Rattle.ordering.specs.Table.{rankIn, countIn, blockId, nextOf, Ordered, climb, usable};
+ghost use Rattle.sums.specs.Least.{leastFrom};
+
+pub struct Rank(pub u32);
+
+pub struct SequenceNumber(pub u16);
+
+// A rank and an instance as one number.
+pub fn key(rank: Rank, instance: u16) -> u64
+    ensures { λ r. ⌜ r ≡ keyOf (rank .0) instance ⌝ }
+{
+    (rank.0 as u64) * 16 + (instance as u64)
+}
+
+// The rank in slot `index` of an instance, 0 outside the table.
+pub fn rank_at(ranks: &[u32], instance: u16, index: u16) -> Rank
+    ensures { λ r. ⌜ r .0 ≡ rankIn (now (ranks .entry)) instance index ⌝ }
+{
+    let at = (instance as usize) * 128 + (index as usize);
+    if at < ranks.len() {
+        Rank(ranks[at])
+    } else {
+        Rank(0)
+    }
+}
+
+// The count of an instance, 0 past the sixteenth.
+pub fn count_at(counts: [u16; 16], instance: u16) -> u16
+    ensures { λ r. ⌜ r ≡ countIn counts instance ⌝ }
+{
+    let at = instance as usize;
+    if at < 16 { counts[at] } else { 0 }
+}
+
+fn least(a: u64, b: u64) -> u64
+    ensures { λ r. ⌜ r ≡ min a b ⌝ }
+{
+    if a < b { a } else { b }
+}
+
+// What instance j allows below the bar.
+fn ceiling(ranks: &[u32], full: [u16; 16], j: u16) -> u64
+    ensures { λ r. ⌜ r ≡ ceilingOf (rankIn (now (ranks .entry))) (countIn full) j ⌝ }
+{
+    let n = count_at(full, j);
+    if 0 < n {
+        key(rank_at(ranks, j, n - 1), j) + 16
+    } else {
+        0
+    }
+}
+
+// The bar of a view.
+pub fn bar(m: u16, ranks: &[u32], full: [u16; 16]) -> u64
+    ensures { λ r. ⌜ r ≡ barOf m (rankIn (now (ranks .entry))) (countIn full) ⌝ }
+{
+    let mut low = ceiling(ranks, full, 0);
+    let mut j: u16 = 0;
+    while j < m {
+        low = least(low, ceiling(ranks, full, j));
+        j += 1;
+    }
+    low
+}
+
+// The key of the next block of instance j, or the bar.
+fn next_of(ranks: &[u32], full: [u16; 16], stop: u64, cursors: [u16; 16], j: u16) -> u64
+    ensures { λ r. ⌜ r ≡ nextOf (rankIn (now (ranks .entry))) (countIn full) stop (countIn cursors) j ⌝ }
+{
+    let n = count_at(cursors, j);
+    if n < count_at(full, j) {
+        key(rank_at(ranks, j, n), j)
+    } else {
+        stop
+    }
+}
+
+// The least key of the instances' next blocks, or the bar.
+fn next_key(m: u16, ranks: &[u32], full: [u16; 16], stop: u64, cursors: [u16; 16]) -> u64
+    ensures { λ r. ⌜ r ≡ leastFrom stop (nextOf (rankIn (now (ranks .entry))) (countIn full) stop (countIn cursors)) m ⌝ }
+{
+    let mut low = stop;
+    let mut j: u16 = 0;
+    while j < m {
+        low = least(low, next_of(ranks, full, stop, cursors, j));
+        j += 1;
+    }
+    low
+}
+
+// Stores v where the buffer has the place.
+fn put(out: &mut [u16], at: usize, v: u16)
+    ensures { λ _. ⌜ now (out .exit) ≡ set (now (out .entry)) at v ⌝ }
+{
+    if at < out.len() {
+        out[at] = v;
+    }
+}
+
+// Writes the blocks of the global log over the front of `out`, as far as it goes, each as instance * 128 + index.
+// Returns how many the log has.
+pub fn global_log(m: u16, ranks: &[u32], full: [u16; 16], out: &mut [u16]) -> usize
+    requires { ⌜ Ordered m (rankIn (now ranks)) (countIn full) ⌝ }
+    ensures { λ r. ⌜ (r ≡ length (globalLog m (rankIn (now (ranks .entry))) (countIn full))) × (now (out .exit) ≡ fill (map blockId (globalLog m (rankIn (now (ranks .entry))) (countIn full))) (now (out .entry))) ⌝ }
+{
+    let stop = bar(m, ranks, full);
+    let mut cursors = [0u16; 16];
+    let mut count: usize = 0;
+    let mut k = next_key(m, ranks, full, stop, cursors);
+    while k < stop {
+        let i = (k % 16) as u16;
+        let n = count_at(cursors, i);
+        put(out, count, i * 128 + n);
+        let at = i as usize;
+        cursors[at] = n + 1;
+        count += 1;
+        k = next_key(m, ranks, full, stop, cursors);
+    }
+    count
+}
+
+// How many of the first `count` blocks of an instance have rising ranks.
+fn climbing(ranks: &[u32], instance: u16, count: u16) -> u16
+    ensures { λ r. ⌜ r ≡ climb (rankIn (now (ranks .entry)) instance) count ⌝ }
+{
+    let mut n: u16 = 0;
+    let mut last: u32 = 0;
+    while n < count {
+        let r = rank_at(ranks, instance, n);
+        let now = r.0;
+        if now <= last {
+            return n;
+        }
+        last = now;
+        n += 1;
+    }
+    n
+}
+
+// At most 128 of a count.
+fn at_most(count: u16) -> u16
+    ensures { λ r. ⌜ r ≡ min count 128 ⌝ }
+{
+    if count < 128 { count } else { 128 }
+}
+
+// The counts as far as the table is one of a ledger: at most 128, and rising from above 0.
+pub fn usable_counts(ranks: &[u32], full: [u16; 16]) -> [u16; 16]
+    ensures { λ r. ⌜ countIn r ≡ usable (rankIn (now (ranks .entry))) (countIn full) ⌝ }
+{
+    let mut counts = [0u16; 16];
+    let mut j: u16 = 0;
+    while j < 16 {
+        let at = j as usize;
+        counts[at] = climbing(ranks, j, at_most(count_at(full, j)));
+        j += 1;
+    }
+    counts
+}
+
+// The global log of any table: nothing is asked of the caller.
+pub fn view_log(m: u16, ranks: &[u32], full: [u16; 16], out: &mut [u16]) -> usize
+    ensures { λ r. ⌜ (r ≡ length (globalLog m (rankIn (now (ranks .entry))) (usable (rankIn (now (ranks .entry))) (countIn full)))) × (now (out .exit) ≡ fill (map blockId (globalLog m (rankIn (now (ranks .entry))) (usable (rankIn (now (ranks .entry))) (countIn full)))) (now (out .entry))) ⌝ }
+{
+    let counts = usable_counts(ranks, full);
+    global_log(m, ranks, counts, out)
+}
