@@ -1,0 +1,5 @@
+pub mod Frame
+pub mod Header
+pub mod Balances
+pub mod Block
+pub mod Step

@@ -1,0 +1,22 @@
+use borrow.Author.Needs.{needs}
+use Rattle.transactions.proofs.CheckLaws.{balanced-same}
+use Rattle.transactions.proofs.check.sums_agree.Statement.{statement}
+use Rattle.transactions.proofs.check.sums_agree.Tie as tie
+
+returns : tie.Need-returns
+returns c =
+    let d = simp (c .before .before .before .before .byte-at .ensures, c .before .before .before .before .before .debits .ensures) at (c .before .before .before .total .ensures) in
+    let e = simp (c .before .byte-at2 .ensures, c .before .before .credits .ensures) at (c .total2 .ensures) in
+    rw (balanced-same (c .before .before .before .before .before .before .before .args .body .now)) (simp (d, e))
+
+pub sums-agree-spec : {M : Type 1} → statement M
+sums-agree-spec =
+    tie.close
+    (tie.spec
+    (λ c κs. search needs)
+    (λ c κs. search needs)
+    (λ c κs. search needs)
+    (λ c κs. search needs)
+    (λ c κs. search needs)
+    (λ c κs. search needs)
+    returns)
