@@ -1,0 +1,5 @@
+pub mod Body
+pub mod Fits
+pub mod Writing
+pub mod Verdict
+pub mod OneWriting

@@ -1,0 +1,2 @@
+-- Laws of the stores.
+mod BodyStores
