@@ -1,0 +1,3 @@
+-- Laws that the layers above cite, and the theorem `loaded-complete`.
+pub mod LoadLaws
+pub mod ProperLaws
