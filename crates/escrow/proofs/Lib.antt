@@ -1,0 +1,8 @@
+-- Laws of the rules, and of the cells that hold them (the last).
+pub mod Fixpoint
+pub mod Balance
+pub mod AmountsViewOnly
+pub mod Outcomes
+pub mod Growth
+pub mod Totals
+pub mod AmountCells
