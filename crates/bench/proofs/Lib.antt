@@ -1,0 +1,2 @@
+-- Laws of the tests before a timed call.
+pub mod Ready

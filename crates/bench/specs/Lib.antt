@@ -1,0 +1,2 @@
+-- What the timed calls promise.
+pub mod Bench
