@@ -1,0 +1,123 @@
+-- Two histories that are alike as far as the heights go: they grow alike, and get the same answers.
+-- Assumes nothing.
+use Prim.Native.Nat.{_%_, _*_, _+_, _-_, _/_, _<_, ℕ}
+use borrow.Author.Tests.{eq-eqb, leb-false, ne-eqb}
+use lib.Dec.{eqb, leb, ltb}
+use lib.ListN.{getD, length}
+use mathlib.Core.Bool.{Bool, not, true}
+use mathlib.Core.Logic.{_⊎_, inl, inr}
+use mathlib.Core.Path.{_∙_, _≡_, ap, ap₂, refl, sym}
+use native.Mathlib.Decide.{decLt, ℕ-discrete}
+use native.Mathlib.Omega.{arith}
+use Rattle.escrow.proofs.Growth.{Extends}
+use Rattle.escrow.specs.Outcome.{History}
+use Rattle.plain.proofs.AnswerLaws.{firstTo-ext, refuse-pass, then-ext}
+use Rattle.plain.specs.Answer.{Answer, _then_, refuse}
+use Rattle.plain.specs.Plain.{answer, blockAnswer, citeAnswer, citedBefore, entryOff, frontAnswer, lastEntry, lastRank, lentAnswer, idleAnswer}
+use Rattle.sums.proofs.TestLaws.{anyTo-ext, pick-false, pick-true}
+use Rattle.sums.specs.Test.{anyTo, both, pick}
+use Rattle.plain.proofs.Engine.{Alike, Grown}
+use Rattle.plain.specs.Offers.{Offer, lentOf, offerNeeds, offered}
+use Rattle.plain.specs.Logs.{Values}
+use Rattle.sheets.specs.Parts.{hasPart}
+use Rattle.sheets.specs.Sheet.{txCount, Sheet}
+use Rattle.settlement.specs.View.{noCite}
+
+pub alike-extends : (S : Sheet) (H H' : History) → Alike (S .m) H H' → Extends S H H'
+alike-extends S H H' a = record { longer = λ j l. omega (arith, a .heights j l); ranks = a .ranks; entries = a .entries; cells = a .cells }
+
+-- ---- the same answers
+
+module _ (S : Sheet) (H H' : History) (b : Values) (a : Alike (S .m) H H') (l : b .instance < S .m) where
+  last-rank-alike : lastRank H (b .instance) ≡ lastRank H' (b .instance)
+  unfolding lastRank
+  last-rank-alike = elim (ℕ-discrete (H .height (b .instance)) 0) [
+    | yes e ↦ pick-true _ _ _ (eq-eqb _ 0 e) ∙ sym (pick-true _ _ _ (eq-eqb _ 0 (sym (a .heights (b .instance) l) ∙ e)))
+    | no e ↦ pick-false _ _ _ (ne-eqb _ 0 e) ∙ a .ranks (b .instance) (H .height (b .instance) - 1) l (omega arith) ∙ ap (λ (n : ℕ). H' .rank (b .instance) (n - 1)) (a .heights (b .instance) l)
+        ∙ sym (pick-false _ _ _ (ne-eqb (H' .height (b .instance)) 0 (λ q. e (a .heights (b .instance) l ∙ q))))
+  ]
+
+  last-entry-alike : (e : ℕ) → e < S .m → lastEntry H (b .instance) e ≡ lastEntry H' (b .instance) e
+  unfolding lastEntry
+  last-entry-alike k u = elim (ℕ-discrete (H .height (b .instance)) 0) [
+    | yes e ↦ pick-true _ _ _ (eq-eqb _ 0 e) ∙ sym (pick-true _ _ _ (eq-eqb _ 0 (sym (a .heights (b .instance) l) ∙ e)))
+    | no e ↦ pick-false _ _ _ (ne-eqb _ 0 e) ∙ a .entries (b .instance) (H .height (b .instance) - 1) k l (omega arith) u ∙ ap (λ (n : ℕ). H' .entry (b .instance) (n - 1) k) (a .heights (b .instance) l)
+        ∙ sym (pick-false _ _ _ (ne-eqb (H' .height (b .instance)) 0 (λ q. e (a .heights (b .instance) l ∙ q))))
+  ]
+
+  cite-alike : (q : ℕ) → citeAnswer S H b q ≡ citeAnswer S H' b q
+  unfolding citeAnswer citedBefore
+  cite-alike q =
+      let x : ℕ = getD (b .cites) q noCite in
+      let c : anyTo (H .height (b .instance) * 32) (λ p. eqb (H .cell (b .instance) p) x) ≡ anyTo (H' .height (b .instance) * 32) (λ p. eqb (H' .cell (b .instance) p) x) =
+      anyTo-ext (H .height (b .instance) * 32) _ _ (λ p u. ap (λ (y : ℕ). eqb y x) (a .cells (b .instance) p l u))
+      ∙ ap (λ (n : ℕ). anyTo (n * 32) (λ p. eqb (H' .cell (b .instance) p) x)) (a .heights (b .instance) l) in
+      ap (λ (t : Bool). refuse (leb (txCount S) x) 13 q then refuse (not (hasPart S x (b .instance))) 14 q then refuse (pick t true (anyTo q (λ q'. eqb (getD (b .cites) q' noCite) x))) 15 q) c
+
+pub block-alike : (S : Sheet) (H H' : History) (b : Values) → Alike (S .m) H H' → blockAnswer S H b ≡ blockAnswer S H' b
+unfolding blockAnswer
+block-alike S H H' b a =
+    then-ext _ _ _ _ refl (λ t8.
+    let l : b .instance < S .m = leb-false (S .m) (b .instance) (refuse-pass _ _ _ t8) in
+    let h : H .height (b .instance) ≡ H' .height (b .instance) = a .heights (b .instance) l in
+    then-ext _ _ _ _ (ap (λ (n : ℕ). refuse (leb 128 n) 17 0) h) (λ t17.
+    then-ext _ _ _ _ (ap (λ (n : ℕ). refuse (not (eqb (b .number) (n + 1))) 9 (n + 1)) h) (λ t9.
+    then-ext _ _ _ _ (ap (λ (r : ℕ). refuse (leb (b .rank) r) 10 r) (last-rank-alike S H H' b a l)) (λ t10.
+    then-ext _ _ _ _ (firstTo-ext (S .m) _ _ (λ e u. entries e u l)) (λ t11.
+    then-ext _ _ _ _ (firstTo-ext (S .m) _ _ (λ e u. ap (λ (n : ℕ). refuse (ltb n (getD (b .cut) e 0)) 12 e) (a .heights e u))) (λ t12.
+    firstTo-ext (length (b .cites)) _ _ (λ q u. cite-alike S H H' b a l q)))))))
+  where
+    entries : (e : ℕ) → e < S .m → b .instance < S .m → refuse (entryOff H b e) 11 e ≡ refuse (entryOff H' b e) 11 e
+    entries e u l = unfold entryOff in ap (λ (n : ℕ). refuse (pick (both (eqb e (b .instance)) (not (eqb (getD (b .cut) e 0) (b .number - 1)))) true (ltb (getD (b .cut) e 0) n)) 11 e) (last-entry-alike S H H' b a l e u)
+
+pub answer-alike : (S : Sheet) (H H' : History) (o : Offer) → Alike (S .m) H H' → answer S H o ≡ answer S H' o
+unfolding answer
+answer-alike S H H' o a = ap (λ (x : Answer). idleAnswer o then lentAnswer (offerNeeds S) (lentOf o) then frontAnswer S o then x) (block-alike S H H' (offered S o) a)
+
+-- ---- alike histories that grow by the same block are alike
+
+pub grown-alike : (m : ℕ) (b : Values) (H H' G G' : History) → b .instance < m → Alike m H H' → Grown m b H G → Grown m b H' G' → Alike m G G'
+grown-alike m b H H' G G' l a g g' = record { heights = heights; ranks = ranks; entries = entries; cells = cells }
+  where
+    heights : (j : ℕ) → j < m → G .height j ≡ G' .height j
+    heights j k = elim (ℕ-discrete j (b .instance)) [
+      | yes q ↦ rw q (omega (arith, g .more, g' .more, a .heights (b .instance) l))
+      | no q ↦ g .others j k q ∙ a .heights j k ∙ sym (g' .others j k q)
+    ]
+
+    Which : ℕ → ℕ → Type 0
+    Which j n = (n < H .height j) ⊎ ((j ≡ b .instance) × (n ≡ H .height (b .instance)))
+
+    own : (j n : ℕ) → n < G .height j → j ≡ b .instance → Dec (n < H .height j) → Which j n
+    own j n u q (yes w) = inl w
+    own j n u q (no w) = inr (q, omega (arith, g .more, ap (G .height) q, ap (H .height) q))
+
+    split : (j n : ℕ) → j < m → n < G .height j → Which j n
+    split j n k u = elim (ℕ-discrete j (b .instance)) [ yes q ↦ own j n u q (decLt n (H .height j)) | no q ↦ inl (omega (arith, g .others j k q)) ]
+
+    h : H .height (b .instance) ≡ H' .height (b .instance)
+    h = a .heights (b .instance) l
+
+    rank-new : (j n : ℕ) → Which j n → j < m → G .rank j n ≡ G' .rank j n
+    rank-new j n (inl u) k = g .old-rank j n k u ∙ a .ranks j n k u ∙ sym (g' .old-rank j n k (omega (arith, a .heights j k)))
+    rank-new j n (inr u) k = ap₂ (G .rank) (u .0) (u .1) ∙ g .new-rank ∙ sym (ap₂ (G' .rank) (u .0) (u .1 ∙ h) ∙ g' .new-rank)
+
+    ranks : (j n : ℕ) → j < m → n < G .height j → G .rank j n ≡ G' .rank j n
+    ranks j n k u = rank-new j n (split j n k u) k
+
+    entry-new : (j n e : ℕ) → Which j n → j < m → e < m → G .entry j n e ≡ G' .entry j n e
+    entry-new j n e (inl u) k w = g .old-entry j n e k u w ∙ a .entries j n e k u w ∙ sym (g' .old-entry j n e k (omega (arith, a .heights j k)) w)
+    entry-new j n e (inr u) k w = ap₂ (λ (i n : ℕ). G .entry i n e) (u .0) (u .1) ∙ g .new-entry e w ∙ sym (ap₂ (λ (i n : ℕ). G' .entry i n e) (u .0) (u .1 ∙ h) ∙ g' .new-entry e w)
+
+    entries : (j n e : ℕ) → j < m → n < G .height j → e < m → G .entry j n e ≡ G' .entry j n e
+    entries j n e k u w = entry-new j n e (split j n k u) k w
+
+    cell-new : (j p : ℕ) → Which j (p / 32) → j < m → G .cell j p ≡ G' .cell j p
+    cell-new j p (inl u) k = g .old-cell j p k (omega arith) ∙ a .cells j p k (omega arith) ∙ sym (g' .old-cell j p k (omega (arith, a .heights j k)))
+    cell-new j p (inr u) k =
+        let q : p ≡ H .height (b .instance) * 32 + p % 32 = omega (arith, u .1) in
+        let q' : p ≡ H' .height (b .instance) * 32 + p % 32 = omega (arith, u .1, h) in
+        ap₂ (G .cell) (u .0) q ∙ g .new-cell (p % 32) (omega arith) ∙ sym (ap₂ (G' .cell) (u .0) q' ∙ g' .new-cell (p % 32) (omega arith))
+
+    cells : (j p : ℕ) → j < m → p < G .height j * 32 → G .cell j p ≡ G' .cell j p
+    cells j p k u = cell-new j p (split j (p / 32) k (omega arith)) k

@@ -1,0 +1,12 @@
+-- What acceptance keeps, and that an engine which keeps to its contract follows the plain ledger.
+pub mod AnswerLaws
+pub mod Engine
+pub mod Admits
+pub mod Kept
+pub mod Alike
+pub mod Lists
+pub mod Follow
+pub mod Witness
+pub mod Reading
+pub mod Edges
+pub mod EdgesRefusals

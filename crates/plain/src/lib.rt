@@ -1,0 +1,1 @@
+// The plain ledger of document 01: definitions and theorems, no code.
