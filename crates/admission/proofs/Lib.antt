@@ -1,0 +1,6 @@
+-- Laws of the checks.
+pub mod SearchLaws
+pub mod CitationLaws
+pub mod EntryLaws
+pub mod CiteLaws
+pub mod BlockLaws

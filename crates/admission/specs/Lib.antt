@@ -1,0 +1,3 @@
+-- What an offered block says, and its answer.
+pub mod Citing
+pub mod Replies
