@@ -1,0 +1,105 @@
+//! Another program's readings against the second engine's.
+
+use std::fs;
+use std::io::{self, Write};
+use std::process::{Command, Output, Stdio};
+use std::thread;
+
+use crate::{cases, generate, reading};
+
+/// A program with its arguments, parted by spaces.
+pub struct Program {
+    words: Vec<String>,
+}
+
+impl Program {
+    /// `None` if there is no word in it.
+    pub fn new(command: &str) -> Option<Program> {
+        let words: Vec<String> = command.split_whitespace().map(str::to_string).collect();
+        (!words.is_empty()).then_some(Program { words })
+    }
+
+    /// Runs the program with a run on its standard input.
+    fn read(&self, run: &[u8]) -> io::Result<Output> {
+        let mut child = Command::new(&self.words[0])
+            .args(&self.words[1..])
+            .stdin(Stdio::piped())
+            .stdout(Stdio::piped())
+            .stderr(Stdio::piped())
+            .spawn()?;
+        let input = child.stdin.take();
+        thread::scope(|scope| {
+            // Written on the side: the program may print before it has read
+            // everything. It may also stop reading early; that is its affair.
+            scope.spawn(move || input.map(|mut input| input.write_all(run)));
+            child.wait_with_output()
+        })
+    }
+}
+
+/// Compares a program with the second engine on the runs of `count` seeds
+/// from `seed` on. True if all agree.
+pub fn seeds(program: &Program, count: u64, seed: u64) -> io::Result<bool> {
+    for round in 0..count {
+        let seed = seed.wrapping_add(round);
+        let run = generate::bytes(seed);
+        let name = format!("seed {seed}");
+        let file = format!("difference-{seed}");
+        if !agree(program, &name, &file, &run, &reading(&run))? {
+            return Ok(false);
+        }
+    }
+    writeln!(io::stdout(), "{count} runs, {count} agree")?;
+    Ok(true)
+}
+
+/// Compares a program with the texts of the named cases. True if all agree.
+pub fn cases(program: &Program) -> io::Result<bool> {
+    let cases = cases::all();
+    for (number, case) in cases.iter().enumerate() {
+        let file = format!("difference-case-{number}");
+        if !agree(program, &case.name, &file, &case.run, case.text.as_bytes())? {
+            return Ok(false);
+        }
+    }
+    writeln!(io::stdout(), "{0} runs, {0} agree", cases.len())?;
+    Ok(true)
+}
+
+/// Whether a program prints the expected text and ends well. If not, says so,
+/// and leaves the run in two files: as it is, and as a hex dump.
+fn agree(program: &Program, name: &str, file: &str, run: &[u8], text: &[u8]) -> io::Result<bool> {
+    let output = program.read(run)?;
+    if output.stdout == text && output.status.success() {
+        return Ok(true);
+    }
+    fs::write(format!("{file}.run"), run)?;
+    fs::write(format!("{file}.hex"), hex_dump(run))?;
+    let mut out = io::stdout().lock();
+    writeln!(out, "difference at {name}, {} bytes, see {file}.hex and {file}.run", run.len())?;
+    writeln!(out, "first line that differs: {}", first_difference(&output.stdout, text))?;
+    writeln!(out, "---- the program ({}):", output.status)?;
+    out.write_all(&output.stdout)?;
+    writeln!(out, "---- expected:")?;
+    out.write_all(text)?;
+    if !output.stderr.is_empty() {
+        writeln!(out, "---- the program's standard error:")?;
+        out.write_all(&output.stderr)?;
+    }
+    Ok(false)
+}
+
+/// The number, from 1, of the first line in which two texts differ.
+fn first_difference(one: &[u8], other: &[u8]) -> usize {
+    let same = one.iter().zip(other).take_while(|(a, b)| a == b).count();
+    1 + one[..same].iter().filter(|byte| **byte == b'\n').count()
+}
+
+/// Sixteen bytes on a line, with the offset of the first.
+fn hex_dump(bytes: &[u8]) -> String {
+    let line = |(number, chunk): (usize, &[u8])| {
+        let pairs: String = chunk.iter().map(|byte| format!(" {byte:02x}")).collect();
+        format!("{:08x}{pairs}\n", number * 16)
+    };
+    bytes.chunks(16).enumerate().map(line).collect()
+}

@@ -1,0 +1,101 @@
+//! Seeded runs: the same seed gives the same bytes, always and everywhere.
+//!
+//! * [`random`] — the little generator of numbers;
+//! * [`sheets`] — sheets: scarce balances, chains, self payments, contracts;
+//! * [`blocks`] — deliveries: ranks, cuts, turns and citations of every habit;
+//! * [`spoil`] — blocks that are to be turned away (8 to 15 and 17);
+//! * [`damage`] — slips and runs that are not sound (1 to 7).
+
+pub mod blocks;
+pub mod damage;
+pub mod random;
+pub mod sheets;
+pub mod spoil;
+
+use crate::engine::text::LONGEST_RUN;
+use crate::engine::{write, Block, Logs, Sheet};
+use blocks::Pace;
+use random::Random;
+
+/// How large a run is.
+#[derive(Clone, Copy, Debug, PartialEq, Eq)]
+pub enum Size {
+    /// Up to 3 instances, 5 accounts, 6 transactions and 12 offers.
+    Tiny,
+    /// Up to 5 instances, 16 accounts, 40 transactions and 60 offers, at
+    /// times enough offers to fill an instance.
+    Small,
+    /// Up to 16 instances, 128 accounts, 200 transactions and 300 offers.
+    Medium,
+    /// Every limit of the head, as far as 65,536 bytes go.
+    Large,
+    /// 16 instances with 128 blocks each, 1,024 accounts, 64 registers and
+    /// 1,024 transactions: more bytes than `readrun` takes.
+    Largest,
+}
+
+/// A sheet and the blocks offered on it, in order.
+#[derive(Clone, Debug)]
+pub struct Run {
+    pub sheet: Sheet,
+    pub offers: Vec<Block>,
+}
+
+impl Run {
+    /// The slips, one by one.
+    pub fn slips(&self) -> Vec<Vec<u8>> {
+        let mut slips = write::sheet(&self.sheet);
+        slips.extend(self.offers.iter().map(|block| write::block(block, self.sheet.head.m)));
+        slips
+    }
+
+    pub fn bytes(&self) -> Vec<u8> {
+        self.slips().concat()
+    }
+
+    /// The instance logs that the offers come to.
+    pub fn logs(&self) -> Logs {
+        let mut logs = Logs::new(self.sheet.instances());
+        for block in &self.offers {
+            if logs.judge(&self.sheet, block).is_ok() {
+                logs.push(block.clone());
+            }
+        }
+        logs
+    }
+}
+
+/// A run of a size whose slips are all sound. `noise` is the share of offers,
+/// in percent, that are meant to be turned away.
+pub fn run(random: &mut Random, size: Size, noise: u64) -> Run {
+    let sheet = sheets::sheet(random, size);
+    let taken: usize = write::sheet(&sheet).iter().map(Vec::len).sum();
+    let budget = match size {
+        Size::Largest => usize::MAX,
+        _ => LONGEST_RUN.saturating_sub(taken),
+    };
+    let pace = Pace::random(random, &sheet, size, budget, noise);
+    let offers = blocks::offers(random, &sheet, &pace);
+    Run { sheet, offers }
+}
+
+/// The bytes that a seed stands for, for `gen` and `compare`: mostly small
+/// and medium runs, some of them noisy, some damaged.
+pub fn bytes(seed: u64) -> Vec<u8> {
+    let mut random = Random::new(seed);
+    let size = match random.below(100) {
+        0..34 => Size::Tiny,
+        34..70 => Size::Small,
+        70..94 => Size::Medium,
+        _ => Size::Large,
+    };
+    let noise = random.pick(&[0, 0, 5, 20, 50]);
+    let run = run(&mut random, size, noise);
+    match (size, random.below(100)) {
+        (_, 0..3) => damage::near_the_limit(&mut random, &run),
+        (_, 3..25) => damage::damaged(&mut random, &run),
+        // Small sheets are quickly read, so they carry most of the faults.
+        (Size::Tiny, 25..65) | (Size::Small, 25..35) => damage::one_fault(&mut random, &run),
+        _ => run.bytes(),
+    }
+}

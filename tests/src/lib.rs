@@ -1,0 +1,20 @@
+//! Crosscheck: the second engine, and the runs to try an engine with.
+//!
+//! The engine here reads a recorded run straight from the text of the scope
+//! paper ("document 01") and shares no code with the proved library. It is
+//! kept plain on purpose: whoever doubts a reading should be able to hold a
+//! file of this package beside the paper and follow both.
+//!
+//! * [`engine`] — the second engine: slips, sheet, plain ledger, rules, text.
+//! * [`generate`] — seeded runs of every size, sound, noisy and damaged.
+//! * [`replay`] — the same instance logs, delivered in another order.
+//! * [`cases`] — named runs with the text that the paper gives for them.
+//! * [`compare`] — another program's readings against the second engine's.
+
+pub mod cases;
+pub mod compare;
+pub mod engine;
+pub mod generate;
+pub mod replay;
+
+pub use engine::reading;
