@@ -13,3 +13,4 @@ pub mod VerdictLaws
 pub mod AcceptLaws
 pub mod OfferLaws
 pub mod FrameLaws
+pub mod LoadSheet

@@ -3,5 +3,6 @@ pub mod Cells
 pub mod Lengths
 pub mod Judging
 pub mod State
+pub mod Loading
 pub mod Offering
 pub mod Taking

@@ -3,6 +3,7 @@ mod accept;
 mod frame_verdict;
 mod judge;
 mod lengths;
+mod load;
 mod offer;
 mod state;
 mod store;
