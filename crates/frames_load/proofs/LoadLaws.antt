@@ -21,7 +21,7 @@ use Rattle.frames.specs.Frame.{bodyAt, bodyOf, frameAt}
 use Rattle.frames.specs.Header.{headerOf, headerOk}
 use Rattle.sheets.specs.Sheet.{balanceIn, sheetFrom, slotFrom, transactionIn}
 use Rattle.frames.specs.Step.{kindDue, stepAt}
-use Rattle.frames_load.specs.Load.{Adds, Loads, bodyStored, loadAnswer, loadCells, loadedCells, room, sheetSoFar, withBalances, withTransaction}
+use Rattle.frames_load.specs.Load.{LoadStep, Adds, Loads, bodyStored, loadAnswer, loadCells, loadedCells, room, sheetSoFar, withBalances, withTransaction}
 use Rattle.sums.proofs.LoopLaws.{tabulate-more}
 use Rattle.sums.proofs.SeqLaws.{getD-tabulate, length-tabulate, tabulate-ext}
 use Rattle.sums.proofs.TestLaws.{passed, peel, took}
@@ -172,3 +172,7 @@ module _ (run : List ℕ) (at : ℕ) (s : Loading) (before after : List ℕ) whe
 
   pub end-kept : Loads run at s before after Step.End → after ≡ before
   end-kept l = kept refl l
+
+-- so the contract speaks of the decoded sheet
+pub with-adds : (run : List ℕ) (at : ℕ) (s : Loading) (before after : List ℕ) (answer : Step) → Loads run at s before after answer → LoadStep run at s before after answer
+with-adds run at s before after answer l = record { bytes = l; adds = λ next end e. load-adds run at s before after next end (rw e at l) }

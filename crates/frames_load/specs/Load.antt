@@ -7,7 +7,7 @@ use lib.Seq.{sets}
 use mathlib.Core.List.{List, [], _++_, _∷_}
 use mathlib.Core.Path.{_≡_}
 use Rattle.frames.specs.Balances.{balancesOf}
-use Rattle.frames.specs.Frame.{bodyOf, frameAt}
+use Rattle.frames.specs.Frame.{bodyAt, bodyOf, frameAt}
 use Rattle.sheets.specs.Sheet.{Sheet, sheetFrom, slotFrom}
 use Rattle.frames.specs.Step.{headerLoaded, kindDue, stepAt}
 use Rattle.sums.specs.Test.{pick}
@@ -44,7 +44,7 @@ unfoldable pub loadCells : List ℕ → ℕ → Loading → List ℕ → List �
 loadCells run at s cells =
     pick (ltb (length cells) (room s)) cells (loadedCells s (bodyOf (frameAt run at) run) cells (stepAt run at s))
 
--- what the loading step promises: before and after are the cells
+-- what the loading step answers, and what it leaves: before and after are the cells
 pub record Loads (run : List ℕ) (at : ℕ) (s : Loading) (before after : List ℕ) (answer : Step) : Type 0 where
   pub answers : answer ≡ loadAnswer run at s (length before)
   pub cells : after ≡ loadCells run at s before
@@ -63,3 +63,8 @@ pub record Adds (s next : Loading) (b before after : List ℕ) : Type 0 where
   pub balances : kindDue s ≡ 2 → sheetSoFar next after ≡ withBalances s b
   pub transaction : kindDue s ≡ 3 → sheetSoFar next after ≡ withTransaction (sheetSoFar s before) b
   pub block : kindDue s ≡ 4 → (next ≡ s) × (after ≡ before)
+
+-- the contract of the loading step: what it answers and leaves, byte for byte, and what a frame that was taken means for the decoded sheet
+pub record LoadStep (run : List ℕ) (at : ℕ) (s : Loading) (before after : List ℕ) (answer : Step) : Type 0 where
+  pub bytes : Loads run at s before after answer
+  pub adds : (next : Loading) (end : ℕ) → answer ≡ Step.Took next end → Adds s next (bodyAt run at) before after

@@ -7,7 +7,7 @@ use frames::step::kind_due;
 use frames::step::next_frame;
 use refusals::Refusal;
 ghost use mathlib.Core.Path.{_≡_};
-ghost use Rattle.frames_load.specs.Load.{Loads, bodyStored, room};
+ghost use Rattle.frames_load.specs.Load.{LoadStep, bodyStored, room};
 
 // The bytes that the sheet takes, once its header is known.
 pub fn room_of(s: Loading) -> usize
@@ -35,7 +35,7 @@ fn store(sheet: &mut [u8], s: Loading, b: &[u8])
 
 // The frame at an offset, judged by the sheet so far, and stored.
 pub fn load(run: &[u8], at: usize, s: Loading, sheet: &mut [u8]) -> Step
-    ensures { λ r. ⌜ Loads (now (run .entry)) at s (now (sheet .entry)) (now (sheet .exit)) r ⌝ }
+    ensures { λ r. ⌜ LoadStep (now (run .entry)) at s (now (sheet .entry)) (now (sheet .exit)) r ⌝ }
 {
     let least = room_of(s);
     if sheet.len() < least {

@@ -38,29 +38,9 @@ use Rattle.sheets.specs.declared.sheet.Sizes.{Sizes}
 
 -- ---- the whole blocks of a view
 
-pub record Filled (v full : List ℕ) (j : ℕ) : Type 0 where
-  pub size : length full ≡ 16
-  pub done : (i : ℕ) → i < j → getD full i 0 ≡ getD v i 0 / 32
-
-pub filled-none : (v full : List ℕ) → length full ≡ 16 → Filled v full 0
-filled-none v full e = record { size = e; done = λ i l. absurd (not-suc-le-zero l) }
-
-pub filled-more : (v full : List ℕ) (j w : ℕ) → j < 16 → w ≡ getD v j 0 / 32 → Filled v full j → Filled v (set full j w) (j + 1)
-filled-more v full j w h e k = record { size = length-set full j w ∙ k .size; done = λ i l. go i l (eqb i j) refl }
-  where
-    go : (i : ℕ) → i < j + 1 → (b : Bool) → eqb i j ≡ b → getD (set full j w) i 0 ≡ getD v i 0 / 32
-    go i l true q = let d : i ≡ j = eqb-true i j q in rw d (getD-set-same full j w 0 (omega (arith, k .size)) ∙ e)
-    go i l false q = let d : i ≢ j = eqb-false i j q in getD-set-other full j i w 0 d ∙ k .done i (omega (arith, d))
-
-pub filled-end : (v full : List ℕ) (j : ℕ) → length v ≡ 16 → 16 ≤ j → Filled v full j → countIn full ≡ wholeOf (countIn v)
-filled-end v full j ev h k = fun-ext (λ i. go i (decLt i 16))
-  where
-    go : (i : ℕ) → Dec (i < 16) → countIn full i ≡ countIn v i / 32
-    go i (yes l) = k .done i (omega arith)
-    go i (no l) =
-        let a = List·getD-eq-default full 0 {n = i} (omega (arith, k .size)) in
-        let b = List·getD-eq-default v 0 {n = i} (omega arith) in
-        omega (arith, a, b)
+-- past sixteen there is no instance
+pub whole-past : (v : List ℕ) → length v ≡ 16 → (i : ℕ) → 16 ≤ i → wholeOf (countIn v) i ≡ 0
+whole-past v e i h = omega (arith, List·getD-eq-default v 0 {n = i} (omega arith))
 
 -- ---- the contracts of a view
 
