@@ -262,6 +262,6 @@ calls =
     ∷ call settlements (work ++ 2 ∷ []) accepted
     ∷ call share (set work 6 255) (refused 16 256)
     ∷ call share work accepted
-    ∷ call log (256 ∷ 255 ∷ 0 ∷ 0 ∷ []) (refused 16 256)
-    ∷ call log (256 ∷ 256 ∷ 2 ∷ 1 ∷ []) (refused 16 2)
-    ∷ call log (256 ∷ 256 ∷ 2 ∷ 2 ∷ []) accepted ∷ []
+    ∷ call log (255 ∷ 0 ∷ 0 ∷ []) (refused 16 256)
+    ∷ call log (256 ∷ 2 ∷ 1 ∷ []) (refused 16 2)
+    ∷ call log (256 ∷ 2 ∷ 2 ∷ []) accepted ∷ []
