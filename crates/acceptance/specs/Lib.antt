@@ -1,0 +1,3 @@
+-- What the functions that take an accepted block need and promise.
+pub mod Judging
+pub mod Taking

@@ -1,0 +1,2 @@
+-- What a call for an offer promises.
+pub mod Offering

@@ -1,0 +1,5 @@
+// Offers of blocks, as values and as frames.
+pub mod answer;
+mod frame_verdict;
+pub mod offer;
+mod verdict;
