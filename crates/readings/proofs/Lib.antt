@@ -1,0 +1,7 @@
+-- The readings, call by call.
+pub mod FillLaws
+pub mod RoomLaws
+pub mod SettledLaws
+pub mod ReadLaws
+pub mod CallLaws
+pub mod LogLaws
