@@ -1,0 +1,154 @@
+-- Demand 3: the theorem.
+-- Assumes nothing.
+use Prim.Native.Nat.{_+_, _<_, _≤_, ℕ}
+use lib.ListN.{List·getD-eq-default, getD, getD-replicate, length, length-replicate}
+use mathlib.Core.List.{List, [], _∷_, foldl}
+use mathlib.Core.Logic.{_≢_}
+use mathlib.Core.Path.{_∙_, _≡_, ap, ap₂, refl, subst, sym}
+use native.Mathlib.Decide.{decLt}
+use native.Mathlib.Omega.{arith}
+use Rattle.demand.proofs.Opened.{opened, sheet-proper}
+use Rattle.demand.proofs.Steps.{Beside, offer-answer, offer-beside, outcomes-right, read-told, report-right}
+use Rattle.demand.specs.Chain.{Calls, Event, InUse, block, load, read, slip, stop}
+use Rattle.demand.specs.Claim.{Agree, Demand, Plainly, Read, logsOf, offersIn, settlementIn}
+use Rattle.escrow.proofs.Growth.{log-grown, outcome-grown, status-grown}
+use Rattle.escrow.proofs.Outcomes.{ProperLogs, outcome-is, outcome-only}
+use Rattle.escrow.proofs.Totals.{adds-up, covers}
+use Rattle.escrow.specs.Outcome.{Citation, History, InLogs, outcome}
+use Rattle.escrow.specs.Report.{freeAll, heldAll, logAll, statusAll}
+use Rattle.plain.proofs.Follow.{follows-fresh}
+use Rattle.plain.proofs.Kept.{proper}
+use Rattle.plain.proofs.Lists.{starts-extends}
+use Rattle.plain.proofs.Slips.{one-offer}
+use Rattle.plain.specs.Logs.{Logs, Starts, emptyLogs, historyOf}
+use Rattle.plain.specs.Plain.{ledger, next}
+use Rattle.plain.specs.Report.{Report, reportBy, reportOf}
+use Rattle.readings.specs.Reading.{reportIn}
+use Rattle.settlement.specs.Contracts.{Status, pending}
+use Rattle.sheets.proofs.ProperLaws.{ProperSheet}
+use Rattle.sheets.specs.Sheet.{Sheet, balance, txCount}
+use Rattle.state.proofs.OnCells.{fresh-heights}
+use Rattle.state.specs.Cells.{outcomesIn, pastIn}
+use Rattle.state.specs.Loading.{LoadsSheet}
+use Rattle.state.specs.State.{Kept, cellsOf, kept, sheetOf}
+use Rattle.state.specs.declared.ledger.Ledger.{Ledger}
+use Rattle.state.specs.declared.load.Loaded.{Loaded}
+use Rattle.sums.proofs.SeqLaws.{getD-tabulate, length-tabulate}
+use Rattle.sums.proofs.SumLaws.{sum-ext}
+use Rattle.sums.specs.Seq.{Begins, tabulate}
+use Rattle.sums.specs.Sum.{sumTo}
+
+past-end : (n : ℕ) (f : ℕ → Status) (x : ℕ) → (x < n → ⊥) → getD (tabulate n f) x pending ≡ pending
+past-end n f x u = List·getD-eq-default (tabulate n f) pending {n = x} (omega (arith, length-tabulate n f))
+
+-- ---- along the calls
+
+loaded-beside : (S : Sheet) (l : Ledger) (K : Kept) (L : Logs) (run : List ℕ) (at : ℕ) (cells : List ℕ) (r : Loaded) → LoadsSheet l run at (K .sheet) cells r
+    → Beside S l K L → Beside S (r .ledger) (kept cells (K .ranks) (K .cuts) (K .cites) (K .good)) L
+loaded-beside S l K L run at cells r s I = rw (ap (λ (z : Loaded). z .ledger) (s .whole (I .whole) .0), s .whole (I .whole) .1) I
+
+along : (S : Sheet) → ProperSheet S → (l : Ledger) (K : Kept) (es : List Event) (l' : Ledger) (K' : Kept) (L : Logs) → Calls l K es l' K' → Beside S l K L
+    → Plainly S L es × Beside S l' K' (foldl (next S) L (offersIn es))
+unfolding Plainly offersIn
+along S Q l K es l' K' L stop I = (tt, I)
+along S Q l K es l' K' L (block {K' = K1} {es = rest} {r = r} b cites p q) I =
+    let (t, J) = along S Q (r .ledger) K1 rest l' K' _ q (offer-beside S Q l K _ _ r K1 _ L p refl I) in
+    ((offer-answer S Q l K _ _ r K1 _ L p refl I, t), J)
+along S Q l K es l' K' L (slip {K' = K1} {es = rest} {r = r} p q) I =
+    let (t, J) = along S Q (r .ledger) K1 rest l' K' _ q (offer-beside S Q l K _ _ r K1 _ L p refl I) in
+    ((offer-answer S Q l K _ _ r K1 _ L p refl I, t), J)
+along S Q l K es l' K' L (read {es = rest} {q = q} R c) I =
+    let (t, J) = along S Q l K rest l' K' L c I in
+    ((read-told S Q l K _ _ _ _ _ _ L I q R, t), J)
+along S Q l K es l' K' L (load {cells = cells} {run = run} {at = at} {r = r} s c) I = along S Q (r .ledger) _ es l' K' L c (loaded-beside S l K L run at cells r s I)
+
+module _ (S : Sheet) (es : List Event) (l : Ledger) (K : Kept) (U : InUse S es l K) where
+  pub Q : ProperSheet S
+  Q = subst ProperSheet (sym (U .sheet)) (sheet-proper (U .first) (U .lent) (U .opened) (U .whole))
+
+  begins : Beside S (U .first) (U .lent) (emptyLogs S)
+  begins =
+      let e = opened (U .opened) .empty in
+      record {
+        whole = U .whole;
+        sheet = U .sheet;
+        sixteen = ap length e ∙ length-replicate {A = ℕ} 16 0;
+        follows = follows-fresh S _ (λ j k. fresh-heights (cellsOf (U .first) (U .lent)) j (ap (λ (h : List ℕ). getD h j 0) e ∙ getD-replicate 16 j 0 0 (omega (arith, Q .small))));
+      }
+
+  pub comes : Plainly S (emptyLogs S) es × Beside S l K (logsOf S es)
+  unfolding ledger
+  comes = along S Q (U .first) (U .lent) es l K (emptyLogs S) (U .calls) begins
+
+  logs-proper : ProperLogs S (historyOf (logsOf S es))
+  logs-proper = proper S _ (comes .1 .follows .plain)
+
+  right : reportIn l K ≡ reportOf S (logsOf S es)
+  right = report-right S Q l K _ (comes .1)
+
+  recorded : (c : Citation) → InLogs S (historyOf (logsOf S es)) c → outcomesIn (cellsOf l K) c ≡ outcome S (historyOf (logsOf S es)) c
+  recorded c w = outcomes-right S Q l K _ (comes .1) c (w .0, omega (arith, w .1, comes .1 .follows .alike .heights (c .instance) (w .0)))
+
+  free-is : (k : ℕ) → k < S .a → getD (reportIn l K .free) k 0 ≡ freeAll S (historyOf (logsOf S es)) k
+  unfolding reportOf reportBy freeAll
+  free-is k u = ap (λ (r : Report). getD (r .free) k 0) right ∙ getD-tabulate (S .a) _ k 0 u
+
+  held-is : (k : ℕ) → k < S .a → getD (reportIn l K .held) k 0 ≡ heldAll S (historyOf (logsOf S es)) k
+  unfolding reportOf reportBy heldAll
+  held-is k u = ap (λ (r : Report). getD (r .held) k 0) right ∙ getD-tabulate (S .a) _ k 0 u
+
+  log-is : reportIn l K .log ≡ logAll S (historyOf (logsOf S es))
+  unfolding reportOf reportBy logAll
+  log-is = ap (λ (r : Report). r .log) right
+
+  settlement-is : (x : ℕ) → x < txCount S → settlementIn (reportIn l K) x ≡ statusAll S (historyOf (logsOf S es)) x
+  unfolding reportOf reportBy statusAll
+  settlement-is x u = ap (λ (r : Report). getD (r .settlements) x pending) right ∙ getD-tabulate (txCount S) _ x pending u
+
+  settlement-past : (x : ℕ) → (x < txCount S → ⊥) → settlementIn (reportIn l K) x ≡ pending
+  unfolding reportOf reportBy
+  settlement-past x u = ap (λ (r : Report). getD (r .settlements) x pending) right ∙ past-end (txCount S) _ x u
+
+  pub read-right : Read S es l K (logsOf S es)
+  read-right = record {
+    plainly = comes .0;
+    outcomes = recorded;
+    judged = outcome-is S _ logs-proper (Q .some);
+    only = outcome-only S _ logs-proper (Q .some);
+    report = right;
+    adds-up = ap₂ _+_ (sum-ext (S .a) _ _ free-is) (sum-ext (S .a) _ _ held-is) ∙ adds-up S Q _ logs-proper;
+    covered = covers S Q _ logs-proper;
+  }
+
+module _ (S : Sheet) (es es' : List Event) (l l' : Ledger) (K K' : Kept) (U : InUse S es l K) (U' : InUse S es' l' K') where
+  module _ (h : Starts S (logsOf S es) (logsOf S es')) where
+    grown-outcomes : (c : Citation) → InLogs S (historyOf (logsOf S es)) c → outcomesIn (cellsOf l K) c ≡ outcomesIn (cellsOf l' K') c
+    grown-outcomes c w =
+        let E = starts-extends S _ _ h in
+        recorded S es l K U c w
+        ∙ sym (outcome-grown S (Q S es l K U .some) _ _ (logs-proper S es l K U) (logs-proper S es' l' K' U') E c w)
+        ∙ sym (recorded S es' l' K' U' c (w .0, omega (arith, w .1, E .longer (c .instance) (w .0))))
+
+    grown-log : Begins (reportIn l K .log) (reportIn l' K' .log)
+    grown-log = rw (log-is S es l K U, log-is S es' l' K' U')
+        (log-grown S (Q S es l K U .some) _ _ (logs-proper S es l K U) (logs-proper S es' l' K' U') (starts-extends S _ _ h))
+
+    grown-settled : (x : ℕ) → settlementIn (reportIn l K) x ≢ pending → settlementIn (reportIn l' K') x ≡ settlementIn (reportIn l K) x
+    grown-settled x n = elim (decLt x (txCount S)) [
+      | yes u ↦
+          let e = settlement-is S es l K U x u in
+          settlement-is S es' l' K' U' x u
+          ∙ status-grown S (Q S es l K U .some) _ _ (logs-proper S es l K U) (logs-proper S es' l' K' U') (starts-extends S _ _ h) x (λ z. n (e ∙ z)) ∙ sym e
+      | no u ↦ absurd (n (settlement-past S es l K U x u))
+    ]
+
+  pub agree : Agree S l K (logsOf S es) l' K' (logsOf S es')
+  agree = record {
+    report = λ e. right S es l K U ∙ ap (reportOf S) e ∙ sym (right S es' l' K' U');
+    outcomes = grown-outcomes;
+    log = grown-log;
+    settled = grown-settled;
+  }
+
+pub demand-3 : Demand
+demand-3 = record { one = read-right; two = agree; slip = λ S L lent bytes at b l p. one-offer S bytes at b p L lent l }

@@ -1,0 +1,152 @@
+-- Each call keeps the ledger beside the plain ledger.
+-- Assumes nothing.
+use Prim.Native.Nat.{_*_, _≤_, suc, zero, ℕ}
+use lib.Dec.{eqb}
+use lib.ListN.{length, length-set}
+use mathlib.Core.Bool.{Bool, true}
+use mathlib.Core.List.{List, [], _++_, _∷_, map}
+use mathlib.Core.Path.{_∙_, _≡_, ap, ap₂, refl, subst, sym}
+use native.Mathlib.Omega.{arith}
+use Rattle.escrow.proofs.Growth.{outcome-grown}
+use Rattle.escrow.specs.Cells.{historyIn}
+use Rattle.escrow.specs.Outcome.{Citation, InLogs, fullView, outcome}
+use Rattle.offers.specs.Offering.{Offers, answerFrom, replyOf}
+use Rattle.offers.specs.declared.answer.Offered.{Offered}
+use Rattle.ordering.specs.Order.{Ref}
+use Rattle.plain.proofs.Alike.{alike-extends}
+use Rattle.plain.proofs.AnswerLaws.{lent-enough, offer-lent}
+use Rattle.plain.proofs.Engine.{Answered, Engine, reportFrom, wholeView}
+use Rattle.plain.proofs.Follow.{Follows, follows-next, same-answer}
+use Rattle.plain.proofs.Kept.{proper}
+use Rattle.plain.proofs.Reading.{reads-right}
+use Rattle.plain.specs.Answer.{Answer, accepted, isAccepted}
+use Rattle.plain.specs.Logs.{Logs, Values, historyOf}
+use Rattle.plain.specs.Offers.{Offer, lentOf, offerNeeds, offered}
+use Rattle.plain.specs.Plain.{answer, lentAnswer, next}
+use Rattle.plain.specs.Report.{Query, Report, Tells, accounts, fillNeeds, listsOf, log, readAnswer, registers, reportBy, reportOf, settlements, share, valueOf, workNeeds}
+use Rattle.readings.specs.Reading.{Reads, lentTo, reportIn, workLengths}
+use Rattle.settlement.specs.Cells.{rowsIn}
+use Rattle.settlement.specs.Tables.{Buffers}
+use Rattle.settlement.specs.View.{viewLog}
+use Rattle.sheets.proofs.ProperLaws.{ProperSheet}
+use Rattle.sheets.proofs.SheetCells.{sheet-m}
+use Rattle.sheets.specs.Sheet.{Sheet}
+use Rattle.state.proofs.Engine.{Roomy, engineIn}
+use Rattle.state.proofs.Grows.{rows-in}
+use Rattle.state.proofs.OnCells.{cells-answered}
+use Rattle.state.specs.Cells.{Cells, cellsOffered, judgedIn, pastIn, storedIn, takenIn}
+use Rattle.state.specs.State.{Kept, cellsOf, complete, kept, lengthsOf, sheetOf, sizesOf}
+use Rattle.state.specs.declared.ledger.Ledger.{Ledger}
+use Rattle.sums.proofs.TestLaws.{by-pick, pick-true}
+use Rattle.sums.specs.Fold.{foldTo}
+
+-- the ledger l with its buffers K, and the plain ledger's logs L
+pub record Beside (S : Sheet) (l : Ledger) (K : Kept) (L : Logs) : Type 0 where
+  pub whole : complete l ≡ true
+  pub sheet : S ≡ sheetOf l K
+  pub sixteen : length (l .heights) ≡ 16
+  pub follows : Follows S (engineIn (cellsOf l K)) L
+
+-- ---- an offer
+
+heights-judged : (S : Sheet) (i : ℕ) (p : ℕ → ℕ) (D : Cells) (n : ℕ) → foldTo n (λ q. judgedIn S i (p q)) D .heights ≡ D .heights
+unfolding foldTo judgedIn
+heights-judged S i p D zero = refl
+heights-judged S i p D (suc n) = heights-judged S i p D n
+
+heights-offered : (S : Sheet) (a : Answer) (b : Values) (C : Cells) → length (cellsOffered S a b C .heights) ≡ length (C .heights)
+unfolding cellsOffered takenIn
+heights-offered S a b C =
+    by-pick (λ (D : Cells). length (D .heights) ≡ length (C .heights)) (isAccepted a)
+    (λ e. ap length (heights-judged S (b .instance) _ (storedIn b C) 32) ∙ (unfold storedIn in length-set (C .heights) (b .instance) _)) (λ e. refl)
+
+module _ (S : Sheet) (Q : ProperSheet S) (l : Ledger) (K : Kept) (W : Buffers) (o : Offer) (r : Offered) (K' : Kept) (W' : Buffers) (L : Logs)
+    (p : Offers l K W o r K' W') (lent : lentOf o ≡ lengthsOf K W) (I : Beside S l K L) where
+  due : answerFrom l K o ≡ answer S (pastIn (cellsOf l K)) o
+  unfolding answerFrom
+  due = pick-true _ _ _ (I .whole) ∙ ap (λ (T : Sheet). answer T (pastIn (cellsOf l K)) o) (sym (I .sheet))
+
+  roomy : answer S (pastIn (cellsOf l K)) o ≡ accepted → Roomy (S .m) (cellsOf l K)
+  unfolding offerNeeds
+  roomy e =
+      let e1 = lent-enough _ _ _ _ (ap (lentAnswer (offerNeeds S)) (sym lent) ∙ offer-lent S (pastIn (cellsOf l K)) o e) in
+      let e2 = lent-enough _ _ _ _ (e1 .1) in
+      let e3 = lent-enough _ _ _ _ (e2 .1) in
+      let e4 = lent-enough _ _ _ _ (e3 .1) in
+      let e5 = lent-enough _ _ _ _ (e4 .1) in
+      record { heights = I .sixteen; ranks = e2 .0; cuts = e3 .0; cites = e4 .0; good = e5 .0 }
+
+  cells-are : cellsOf (r .ledger) K' ≡ cellsOffered S (answer S (pastIn (cellsOf l K)) o) (offered S o) (cellsOf l K)
+  cells-are = p .cells ∙ ap₂ (λ (T : Sheet) (a : Answer). cellsOffered T a (offered T o) (cellsOf l K)) (sym (I .sheet)) due
+
+  says : replyOf (r .answer) ≡ answer S (pastIn (cellsOf l K)) o
+  says = p .answered ∙ due
+
+  step : Answered S o (replyOf (r .answer)) (engineIn (cellsOf l K)) (engineIn (cellsOf (r .ledger) K'))
+  step = rw (says, cells-are) (cells-answered S Q (cellsOf l K) o roomy)
+
+  pub offer-answer : replyOf (r .answer) ≡ answer S (historyOf L) o
+  offer-answer = same-answer S Q _ _ L o _ step (I .follows)
+
+  pub offer-beside : Beside S (r .ledger) K' (next S L o)
+  offer-beside = record {
+    whole = unfold complete in rw (p .loading) (I .whole);
+    sheet = I .sheet ∙ rw (p .loading, p .sheet) refl;
+    sixteen = ap (λ (D : Cells). length (D .heights)) cells-are ∙ heights-offered S _ (offered S o) (cellsOf l K) ∙ I .sixteen;
+    follows = follows-next S Q _ _ L o _ step (I .follows);
+  }
+
+-- ---- a reading
+
+-- the recorded outcomes are the rules'
+pub outcomes-right : (S : Sheet) → ProperSheet S → (l : Ledger) (K : Kept) (L : Logs) → Beside S l K L
+    → (c : Citation) → InLogs S (pastIn (cellsOf l K)) c → engineIn (cellsOf l K) .flag c ≡ outcome S (historyOf L) c
+outcomes-right S Q l K L I c w =
+    let F = I .follows in
+    F .own c w ∙ sym (outcome-grown S (Q .some) (pastIn (cellsOf l K)) (historyOf L) (proper S _ (F .kept)) (proper S _ (F .plain)) (alike-extends S _ _ (F .alike)) c w)
+
+own-report : (l : Ledger) (K : Kept) → reportIn l K ≡ reportFrom (sheetOf l K) (engineIn (cellsOf l K))
+unfolding reportIn reportFrom fullView pastIn historyIn
+own-report l K = ap (λ R. reportBy (sheetOf l K) R (wholeView (engineIn (cellsOf l K)))) (sym (rows-in (cellsOf l K)))
+
+-- the ledger's own report is the plain ledger's
+pub report-right : (S : Sheet) → ProperSheet S → (l : Ledger) (K : Kept) (L : Logs) → Beside S l K L → reportIn l K ≡ reportOf S L
+unfolding reportOf
+report-right S Q l K L I =
+    own-report l K ∙ ap (λ (T : Sheet). reportFrom T (engineIn (cellsOf l K))) (sym (I .sheet))
+    ∙ reads-right S (Q .some) (engineIn (cellsOf l K)) (historyOf L) (I .follows .alike) (outcomes-right S Q l K L I)
+
+module _ (c : Bool) (S S' : Sheet) (r r' : Report) (work : List ℕ) (outs : List (List ℕ)) (a : Answer) (n : ℕ) (outs' : List (List ℕ)) (whole : c ≡ true) where
+  told-as : (q : Query) → S' ≡ S → r' ≡ r → Tells c S' r' q work outs a n outs' → Tells true S r q work outs a n outs'
+  told-as q s e t = rw (sym s, sym e, sym whole) t
+
+  -- the log hangs on m and the log alone
+  told-log : S' .m ≡ S .m → r' .log ≡ r .log → Tells c S' r' log work outs a n outs' → Tells true S r log work outs a n outs'
+  unfolding readAnswer workNeeds fillNeeds valueOf listsOf
+  told-log s e t = record {
+    answered = t .answered ∙ rw (whole, s, e) refl;
+    value = t .value ∙ rw e refl;
+    lists = t .lists ∙ rw e refl;
+  }
+
+lent-report : (l : Ledger) (K : Kept) → reportIn l (kept (K .sheet) (K .ranks) [] (K .cites) (K .good)) ≡ reportIn l K
+unfolding reportIn
+lent-report l K = refl
+
+lent-log : (l : Ledger) (K : Kept) → reportIn l (kept [] (K .ranks) [] [] []) .log ≡ reportIn l K .log
+unfolding reportIn reportBy viewLog rowsIn
+lent-log l K = rw (sheet-m [] (sizesOf l), sheet-m (K .sheet) (sizesOf l)) refl
+
+module _ (S : Sheet) (Q : ProperSheet S) (l : Ledger) (K : Kept) (W W' : Buffers) (outs outs' : List (List ℕ)) (a : Answer) (n : ℕ) (L : Logs) (I : Beside S l K L) where
+  settled-told : (q : Query) (work : List ℕ) → Tells (complete l) (sheetOf l K) (reportIn l (kept (K .sheet) (K .ranks) [] (K .cites) (K .good))) q work outs a n outs'
+      → Tells true S (reportOf S L) q work outs a n outs'
+  settled-told q work t = told-as _ S _ (reportOf S L) _ work outs a n outs' (I .whole) q (sym (I .sheet)) (lent-report l K ∙ report-right S Q l K L I) t
+
+  pub read-told : (q : Query) → Reads l (lentTo q K) W q outs a n W' outs' → Tells true S (reportOf S L) q (workLengths q (lentTo q K) W) outs a n outs'
+  read-told accounts R = settled-told accounts _ (R .tells)
+  read-told registers R = settled-told registers _ (R .tells)
+  read-told settlements R = settled-told settlements _ (R .tells)
+  read-told share R = settled-told share _ (R .tells)
+  read-told log R =
+      told-log _ S _ (reportOf S L) _ _ outs a n outs' (I .whole) (sheet-m [] (sizesOf l) ∙ sym (sheet-m (K .sheet) (sizesOf l)) ∙ ap (λ (T : Sheet). T .m) (sym (I .sheet)))
+      (lent-log l K ∙ ap (λ (x : Report). x .log) (report-right S Q l K L I)) (R .tells)
