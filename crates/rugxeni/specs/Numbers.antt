@@ -1,0 +1,52 @@
+-- The ledger's own numbers in a caller's slice, and answers as numbers.
+-- Assumes nothing.
+use Prim.Native.Nat.{_+_, min, ℕ}
+use lib.ListN.{getD}
+use mathlib.Core.List.{List, [], _∷_}
+use mathlib.Core.Path.{_≡_}
+use Rattle.plain.specs.Answer.{Answer, accepted, noOffer, refused}
+use Rattle.refusals.specs.Refusals.{refusalNumber, refusalPlace}
+use Rattle.state.specs.declared.ledger.Ledger.{Ledger}
+use Rattle.state.specs.declared.load.Taken.{Taken}
+use Rattle.sums.specs.Seq.{fill, tabulate}
+
+-- how many numbers there are
+abbrev pub size : ℕ
+size = 22
+
+-- m, a, g, t, the stage of loading, the transactions taken, then sixteen heights. All zero is a fresh ledger; a stage is one byte
+unfoldable pub ledgerIn : List ℕ → Ledger
+ledgerIn n = record {
+  loading = record { m = getD n 0 0; a = getD n 1 0; g = getD n 2 0; t = getD n 3 0; stage = min (getD n 4 0) 255; loaded = getD n 5 0 };
+  heights = tabulate 16 (λ j. getD n (6 + j) 0);
+}
+
+abbrev pub numbersOf : Ledger → List ℕ
+numbersOf l = l .loading .m ∷ l .loading .a ∷ l .loading .g ∷ l .loading .t ∷ l .loading .stage ∷ l .loading .loaded ∷ l .heights
+
+-- an answer's number: 0 where accepted, the refusal's number, 255 where no byte was left
+abbrev pub numberOf : Answer → ℕ
+numberOf accepted = 0
+numberOf (refused n p) = n
+numberOf noOffer = 255
+
+abbrev pub placeOf : Answer → ℕ
+placeOf accepted = 0
+placeOf (refused n p) = p
+placeOf noOffer = 0
+
+-- of a frame of the sheet: 0 and where the next begins, the refusal's number and place, or 255 where nothing is left to load
+abbrev pub loadNumber : Taken → ℕ
+loadNumber (Taken.Next end) = 0
+loadNumber (Taken.Refused r) = refusalNumber r
+loadNumber Taken.Complete = 255
+
+abbrev pub loadPlace : Taken → ℕ
+loadPlace (Taken.Next end) = end
+loadPlace (Taken.Refused r) = refusalPlace r
+loadPlace Taken.Complete = 0
+
+-- the number is returned; the place, and a value where there is one, go to the first two places of a lent slice, as far as it goes
+pub record Said (number place value : ℕ) (code : ℕ) (told told' : List ℕ) : Type 0 where
+  pub returned : code ≡ number
+  pub written : told' ≡ fill (place ∷ value ∷ []) told

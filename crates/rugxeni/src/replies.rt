@@ -1,0 +1,63 @@
+// Answers as numbers: one is returned, a place and a value are written.
+use offers::answer::Answer;
+use refusals::Checked;
+use refusals::number;
+use refusals::place;
+use state::load::Taken;
+ghost use lib.ListN.{set};
+ghost use mathlib.Core.Path.{_≡_};
+ghost use Rattle.admission.specs.Replies.{replyTo};
+ghost use Rattle.offers.specs.Offering.{replyOf};
+ghost use Rattle.rugxeni.specs.Numbers.{Said, loadNumber, loadPlace, numberOf, placeOf};
+
+fn put_told(told: &mut [u64], i: usize, v: u64)
+    ensures { λ _. ⌜ now (told .exit) ≡ set (now (told .entry)) i v ⌝ }
+{
+    if i < told.len() {
+        told[i] = v;
+    }
+}
+
+pub fn say(code: u16, at: usize, value: u32, told: &mut [u64]) -> u16
+    ensures { λ r. ⌜ Said code at value r (now (told .entry)) (now (told .exit)) ⌝ }
+{
+    put_told(told, 0, at as u64);
+    put_told(told, 1, value as u64);
+    code
+}
+
+// Fewer than 22 numbers: refusal 16.
+pub fn say_short(told: &mut [u64]) -> u16
+    ensures { λ r. ⌜ Said 16 22 0 r (now (told .entry)) (now (told .exit)) ⌝ }
+{
+    say(16, 22, 0, told)
+}
+
+pub fn say_offer(answer: Answer, told: &mut [u64]) -> u16
+    ensures { λ r. ⌜ Said (numberOf (replyOf answer)) (placeOf (replyOf answer)) 0 r (now (told .entry)) (now (told .exit)) ⌝ }
+{
+    match answer {
+        Answer::Accepted => say(0, 0, 0, told),
+        Answer::Refused(r) => say(number(r) as u16, place(r), 0, told),
+        Answer::NoByte => say(255, 0, 0, told),
+    }
+}
+
+pub fn say_reading(answer: Checked, value: u32, told: &mut [u64]) -> u16
+    ensures { λ r. ⌜ Said (numberOf (replyTo answer)) (placeOf (replyTo answer)) value r (now (told .entry)) (now (told .exit)) ⌝ }
+{
+    match answer {
+        Checked::Fine => say(0, 0, value, told),
+        Checked::Refused(r) => say(number(r) as u16, place(r), value, told),
+    }
+}
+
+pub fn say_taken(answer: Taken, told: &mut [u64]) -> u16
+    ensures { λ r. ⌜ Said (loadNumber answer) (loadPlace answer) 0 r (now (told .entry)) (now (told .exit)) ⌝ }
+{
+    match answer {
+        Taken::Next(end) => say(0, end, 0, told),
+        Taken::Refused(r) => say(number(r) as u16, place(r), 0, told),
+        Taken::Complete => say(255, 0, 0, told),
+    }
+}
