@@ -1,0 +1,33 @@
+//! The static library against the second engine, call by call.
+//!
+//! The library is proved; the second engine is written from the scope paper
+//! ("document 01") alone. Whatever differs is a fault in one of the two, or a
+//! sentence that was read in two ways.
+//!
+//! * [`subject`] — the calls that are compared, of the library and of others;
+//! * [`expect`] — the second engine's answers and readings, in the same types;
+//! * [`check`] — the comparisons of one run.
+
+pub mod check;
+pub mod expect;
+pub mod subject;
+
+pub use check::{check, Counts};
+pub use subject::Subject;
+
+use crosscheck::generate::{self, random::Random, Size};
+
+/// Every so many seeds one stands for a largest run, which `crosscheck` does
+/// not generate: it has more bytes than `readrun` takes.
+const LARGEST: u64 = 1_000;
+
+/// The bytes that a seed stands for: those of `crosscheck gen`, but for the
+/// largest runs.
+pub fn bytes(seed: u64) -> Vec<u8> {
+    if seed.is_multiple_of(LARGEST) {
+        let mut random = Random::new(seed);
+        let noise = random.pick(&[0, 10]);
+        return generate::run(&mut random, Size::Largest, noise).bytes();
+    }
+    generate::bytes(seed)
+}
