@@ -1,0 +1,2 @@
+-- What the end of a reading promises.
+pub mod Closing
