@@ -1,25 +1,20 @@
 -- The judgement of a stored block's places: what the settlement of a view asks, and what it leaves.
 -- Assumes nothing.
-use Prim.Native.Nat.{_*_, _+_, _/_, _<_, _≤_, ℕ}
+use Prim.Native.Nat.{_*_, _/_, _≤_, ℕ}
 use lib.Dec.{eqb}
-use lib.ListN.{drop, length, length-map}
 use mathlib.Core.Bool.{Bool, false, true}
-use mathlib.Core.List.{List, map}
+use mathlib.Core.List.{List}
 use mathlib.Core.Path.{_∙_, _≡_, ap, fun-ext, refl, subst, sym}
 use native.Mathlib.Omega.{arith}
 use Rattle.escrow.specs.Amounts.{coveredBy, partGood}
-use Rattle.state.proofs.WorkLaws.{drop-fill, drop-written}
 use Rattle.acceptance.specs.Judging.{Judgeable, viewBy}
 use Rattle.state.specs.State.{Beyond}
-use Rattle.ordering.proofs.LogSum.{log-size}
-use Rattle.ordering.specs.Order.{globalLog}
-use Rattle.ordering.specs.Table.{Ordered, blockId, countIn}
-use Rattle.settlement.specs.Tables.{Buffers, Settled, wholeOf}
-use Rattle.settlement.specs.View.{Rows, View, viewLog}
-use Rattle.sheets.proofs.SheetCells.{sheet-m, tx-past}
+use Rattle.ordering.specs.Table.{Ordered, countIn}
+use Rattle.settlement.specs.Tables.{Buffers, wholeOf}
+use Rattle.settlement.specs.View.{Rows, View}
+use Rattle.sheets.proofs.SheetCells.{tx-past}
 use Rattle.sheets.specs.Sheet.{sheetIn}
-use Rattle.sums.proofs.LoopLaws.{allTo-none, sum-most}
-use Rattle.sums.proofs.SeqLaws.{length-fill, length-written}
+use Rattle.sums.proofs.LoopLaws.{allTo-none}
 use Rattle.sums.specs.Test.{pick}
 use Rattle.sheets.specs.declared.sheet.Sizes.{Sizes}
 
@@ -37,23 +32,6 @@ ordered-view m R F i p v e o = subst (Ordered m R) (fun-ext (λ j. each j (eqb j
 pub empty-good : (b : List ℕ) (z : Sizes) (R : Rows) (v : View) (i x : ℕ) → z .t ≤ x → true ≡ partGood (sheetIn b z) R v i x
 unfolding partGood coveredBy
 empty-good b z R v i x h = rw (tx-past b z x h) (sym (allTo-none _))
-
--- the log of a view takes at most 128 places an instance
-log-room : (b : List ℕ) (z : Sizes) (R : Rows) (v : View) → z .m ≤ 16 → Ordered (z .m) (R .rank) (wholeOf v) → length (map blockId (viewLog (sheetIn b z) R v)) ≤ 128 * z .m
-unfolding viewLog
-log-room b z R v few o =
-    rw (sheet-m b z)
-    (omega (arith, length-map (globalLog (z .m) (R .rank) (wholeOf v)) blockId, log-size (z .m) few (R .rank) (wholeOf v), sum-most (z .m) 128 (wholeOf v) (o .short)))
-
-pub settled-beyond : (b : List ℕ) (z : Sizes) (R : Rows) (v : View) (W W' : Buffers) → z .m ≤ 16 → Ordered (z .m) (R .rank) (wholeOf v) → Settled z (sheetIn b z) R v W W' → Beyond z W W'
-settled-beyond b z R v W W' few o s = record {
-  counts = ap (drop (2 * z .t)) (s .counted) ∙ drop-written (W .counts) (2 * z .t) _;
-  table = ap (drop (z .t)) (s .tabled) ∙ drop-written (W .table) (z .t) _;
-  order = ap (drop (128 * z .m)) (s .logged) ∙ drop-fill _ (W .order) (128 * z .m) (log-room b z R v few o);
-  counts-length = ap length (s .counted) ∙ length-written (W .counts) 0 (2 * z .t) _;
-  table-length = ap length (s .tabled) ∙ length-written (W .table) 0 (z .t) _;
-  order-length = ap length (s .logged) ∙ length-fill _ (W .order);
-}
 
 -- the next place of the block can be judged as the first could
 pub judgeable-still : (z : Sizes) (ranks cut : List ℕ) (i h k : ℕ) (W W' : Buffers) → k ≡ h → Judgeable z ranks cut i h W → Beyond z W W' → Judgeable z ranks cut i k W'

@@ -1,6 +1,6 @@
 // The answer to an offered frame, before anything is written.
 use crate::answer::Answer;
-use crate::answer::answer_to;
+use crate::answering::answer_to;
 use crate::verdict::block_verdict;
 use admission::citations::citations_in;
 use admission::replies::is_fine;

@@ -1,6 +1,6 @@
 // Offers of blocks: answered as the plain ledger answers, and taken where no refusal applies.
 use crate::answer::Offered;
-use crate::answer::is_accepted;
+use crate::answering::is_accepted;
 use crate::frame_verdict::frame_verdict;
 use crate::verdict::values_verdict;
 use acceptance::accept::take_block;

@@ -1,6 +1,6 @@
 // The answer to an offer, before anything is written: every refusal of document 01's table, in its order.
 use crate::answer::Answer;
-use crate::answer::answer_to;
+use crate::answering::answer_to;
 use admission::block::check_block;
 use admission::block::check_values;
 use admission::citations::Citations;

@@ -2,8 +2,8 @@ use borrow.Author.Needs.{needs}
 use mathlib.Core.Path.{_∙_, ap₂}
 use Prim.Native.Nat.{ℕ}
 use native.Mathlib.Omega.{arith}
-use Rattle.acceptance.proofs.JudgeLaws.{empty-good, ordered-view, settled-beyond}
-use Rattle.state.proofs.WorkLaws.{beyond-none}
+use Rattle.acceptance.proofs.JudgeLaws.{empty-good, ordered-view}
+use Rattle.state.proofs.WorkLaws.{beyond-none, settled-beyond}
 use Rattle.ordering.specs.Table.{countIn, rankIn}
 use Rattle.settlement.specs.Cells.{rowsIn}
 use Rattle.settlement.specs.View.{View}

@@ -1,8 +1,8 @@
 use borrow.Author.Needs.{needs}
 use mathlib.Core.Path.{sym, ap}
 use Rattle.admission.specs.Replies.{replyTo}
-use Rattle.offers.proofs.answer.answer_to.Statement.{statement}
-use Rattle.offers.proofs.answer.answer_to.Tie as tie
+use Rattle.offers.proofs.answering.answer_to.Statement.{statement}
+use Rattle.offers.proofs.answering.answer_to.Tie as tie
 
 returns : tie.Need-returns
 returns c = ap replyTo (sym (c .enum-told .given .1))
