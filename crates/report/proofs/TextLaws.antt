@@ -19,11 +19,12 @@ use Rattle.readings.specs.Reading.{reportIn}
 use Rattle.refusals.specs.Refusals.{refusalNumber, refusalPlace}
 use Rattle.refusals.specs.declared.Checked.{Checked}
 use Rattle.refusals.specs.declared.Refusal.{Refusal}
-use Rattle.report.specs.Inner.{Ample, Opens, PutsBlocks, PutsOpened}
-use Rattle.report.specs.Opening.{Opened, ended, noLoading, noSheet, openFrom, sheet}
-use Rattle.report.specs.Reading.{blocksText, openedText, readingText}
-use Rattle.report.specs.declared.blocks.Blocks.{Blocks}
-use Rattle.report.specs.declared.opening.Opened as opening
+use Rattle.replay.specs.Inner.{Ample, Opens, PutsBlocks}
+use Rattle.report.specs.Inner.{PutsOpened}
+use Rattle.replay.specs.Opening.{Opened, ended, noLoading, noSheet, openFrom, sheet}
+use Rattle.replay.specs.Reading.{blocksText, openedText, readingText}
+use Rattle.replay.specs.declared.blocks.Blocks.{Blocks}
+use Rattle.replay.specs.declared.opening.Opened as opening
 use Rattle.settlement.specs.Tables.{Buffers}
 use Rattle.sheets.proofs.SheetCells.{sheet-a, sheet-count, sheet-g, sheet-m}
 use Rattle.sheets.specs.Sheet.{Sheet, txCount}

@@ -1,6 +1,3 @@
 // The reading of a run as text.
-mod answers;
-mod blocks;
-mod opening;
 pub mod report;
 mod whole;

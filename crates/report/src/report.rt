@@ -9,7 +9,7 @@ ghost use mathlib.Core.List.{[], _++_, _∷_};
 ghost use mathlib.Core.Path.{_≡_};
 ghost use Rattle.admission.specs.Replies.{replyTo};
 ghost use Rattle.plain.specs.Plain.{lentAnswer};
-ghost use Rattle.report.specs.Reading.{Reports, reportNeeds};
+ghost use Rattle.report.specs.Reports.{Reports, reportNeeds};
 ghost use Rattle.settlement.specs.Tables.{buffers};
 ghost use Rattle.state.specs.Lengths.{needsList};
 ghost use Rattle.state.specs.State.{kept};

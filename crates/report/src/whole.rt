@@ -1,10 +1,10 @@
 // The reading of a run, whole, written into the caller's buffer.
-use crate::blocks::put_blocks;
-use crate::opening::open_run;
 use closing::closing::put_readings;
 use refusals::Checked;
 use refusals::number;
 use refusals::place;
+use replay::blocks::put_blocks;
+use replay::opening::open_run;
 use state::ledger::Ledger;
 use state::ledger::sizes;
 use text::lines::put_long;
@@ -12,8 +12,9 @@ use text::lines::put_refused;
 use text::lines::put_run;
 ghost use mathlib.Core.Bool.{true};
 ghost use mathlib.Core.Path.{_≡_};
-ghost use Rattle.report.specs.Inner.{Ample, PutsOpened};
-ghost use Rattle.report.specs.Reading.{readingText};
+ghost use Rattle.replay.specs.Inner.{Ample};
+ghost use Rattle.report.specs.Inner.{PutsOpened};
+ghost use Rattle.replay.specs.Reading.{readingText};
 ghost use Rattle.settlement.specs.Tables.{buffers};
 ghost use Rattle.state.specs.State.{complete, kept};
 ghost use Rattle.text.specs.Wrote.{Wrote};

@@ -1,0 +1,4 @@
+-- A run read from its bytes: its sheet, then its blocks, each with its line.
+pub mod Opening
+pub mod Reading
+pub mod Inner

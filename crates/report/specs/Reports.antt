@@ -1,0 +1,23 @@
+-- The call for the reading of a run as text (document 01, "One reading, whole").
+-- Assumes nothing.
+use Prim.Native.Nat.{_≤_, ℕ}
+use lib.ListN.{drop, length}
+use mathlib.Core.Bool.{false, true}
+use mathlib.Core.List.{List, [], _++_, _∷_}
+use mathlib.Core.Path.{_≡_}
+use Rattle.plain.specs.Answer.{Answer, isAccepted}
+use Rattle.plain.specs.Plain.{lentAnswer}
+use Rattle.replay.specs.Reading.{readingText}
+use Rattle.settlement.specs.Tables.{Buffers}
+use Rattle.state.specs.State.{Kept, lengthsOf}
+
+-- least lengths, in the order of the call: those of the largest sheet (docs/BUFFERS.md), and the text's
+abbrev pub reportNeeds : List ℕ
+reportNeeds = 110592 ∷ 2048 ∷ 32768 ∷ 65536 ∷ 65536 ∷ 2048 ∷ 1024 ∷ 2048 ∷ 262144 ∷ []
+
+-- The run's text stands at the front of `out`, whole, n is its length, and behind it `out` is as it was. A refusal leaves every buffer as it was; else the other buffers, which hold the ledger while it is read, hold what they may
+pub record Reports (run : List ℕ) (K : Kept) (W : Buffers) (out : List ℕ) (a : Answer) (n : ℕ) (K' : Kept) (W' : Buffers) (out' : List ℕ) : Type 0 where
+  pub answered : a ≡ lentAnswer reportNeeds (lengthsOf K W ++ (length out ∷ []))
+  pub inside : n ≤ length out
+  pub text : isAccepted a ≡ true → (n ≡ length (readingText run)) × (out' ≡ readingText run ++ drop n out)
+  pub quiet : isAccepted a ≡ false → (n ≡ 0) × (K' ≡ K) × (W' ≡ W) × (out' ≡ out)
