@@ -1,10 +1,22 @@
 // Reads a run from standard input, and writes its reading to standard output (document 01, "One reading, whole").
+use fields::front;
 use report::report::report_run;
 
-// The text, where it has so many bytes.
-fn show(text: &[u8], n: usize) {
-    if n <= text.len() {
-        io::write_all(1, &text[..n]);
+// One more read of at most 65,536 bytes, which nobody looks at. Whether there was a byte.
+fn read_on() -> bool {
+    let mut space = io::large_buffer();
+    libc::read(0, &mut space) > 0
+}
+
+// What follows the first 65,537 bytes is read as well, so that whoever writes a long run to a pipe is not cut off.
+// A proved loop has to end, and nothing says that an input does: 2^20 reads, 64 GiB at most, are more than any run has.
+fn read_rest(n: usize) {
+    if n < 65537 {
+        return;
+    }
+    let mut turns = 1048576u32;
+    while turns > 0 && read_on() {
+        turns -= 1;
     }
 }
 
@@ -34,5 +46,6 @@ fn main() {
         &mut order,
         &mut out,
     );
-    show(&out, done.length);
+    io::write_all(1, front(&out, done.length));
+    read_rest(n);
 }
