@@ -1,0 +1,2 @@
+-- What the program's own functions promise.
+pub mod Blank
