@@ -1,9 +1,11 @@
 //! Another program's readings against the second engine's.
 
+use std::fmt::{self, Display};
 use std::fs;
 use std::io::{self, Write};
 use std::process::{Command, Output, Stdio};
 use std::thread;
+use std::time::Instant;
 
 use crate::{cases, generate, reading};
 
@@ -19,8 +21,13 @@ impl Program {
         (!words.is_empty()).then_some(Program { words })
     }
 
+    /// Of its words, one by one.
+    pub fn of(words: &[&str]) -> Program {
+        Program { words: words.iter().map(|word| word.to_string()).collect() }
+    }
+
     /// Runs the program with a run on its standard input.
-    fn read(&self, run: &[u8]) -> io::Result<Output> {
+    pub fn read(&self, run: &[u8]) -> io::Result<Output> {
         let mut child = Command::new(&self.words[0])
             .args(&self.words[1..])
             .stdin(Stdio::piped())
@@ -53,6 +60,30 @@ pub fn seeds(program: &Program, count: u64, seed: u64) -> io::Result<bool> {
     Ok(true)
 }
 
+/// The same over a great many runs, most of them small, with a line of
+/// progress at every hundredth of them and counts of what was compared.
+pub fn long(program: &Program, count: u64, seed: u64) -> io::Result<bool> {
+    let began = Instant::now();
+    let mut readings = Readings::default();
+    for round in 0..count {
+        let seed = seed.wrapping_add(round);
+        let run = generate::mostly_small(seed);
+        let text = reading(&run);
+        let name = format!("seed {seed} of the long comparison");
+        if !agree(program, &name, &format!("difference-long-{seed}"), &run, &text)? {
+            return Ok(false);
+        }
+        readings.count(&run, &text);
+        let done = round + 1;
+        if done.is_multiple_of((count / 100).max(1)) {
+            let seconds = began.elapsed().as_secs();
+            writeln!(io::stderr(), "{done} of {count} runs agree, {seconds} s")?;
+        }
+    }
+    writeln!(io::stdout(), "{readings}\n{count} runs, {count} agree")?;
+    Ok(true)
+}
+
 /// Compares a program with the texts of the named cases. True if all agree.
 pub fn cases(program: &Program) -> io::Result<bool> {
     let cases = cases::all();
@@ -64,6 +95,47 @@ pub fn cases(program: &Program) -> io::Result<bool> {
     }
     writeln!(io::stdout(), "{0} runs, {0} agree", cases.len())?;
     Ok(true)
+}
+
+/// What readings a comparison met, by how they end.
+#[derive(Clone, Copy, Debug, Default, PartialEq, Eq)]
+struct Readings {
+    bytes: u64,
+    /// Read to the end.
+    whole: u64,
+    /// Ended by one of the refusals 1 to 7.
+    ended: u64,
+    long: u64,
+    /// Blocks accepted, and blocks turned away with the next allowed.
+    accepted: u64,
+    refused: u64,
+}
+
+impl Readings {
+    fn count(&mut self, run: &[u8], text: &[u8]) {
+        let lines = |word: &[u8]| {
+            text.split(|byte| *byte == b'\n').filter(|line| line.starts_with(word)).count() as u64
+        };
+        let (whole, long) = (lines(b"share "), lines(b"long"));
+        let ended = 1 - whole - long;
+        self.bytes += run.len() as u64;
+        self.whole += whole;
+        self.long += long;
+        self.ended += ended;
+        self.accepted += lines(b"ok ");
+        self.refused += lines(b"refused ") - ended;
+    }
+}
+
+impl Display for Readings {
+    fn fmt(&self, out: &mut fmt::Formatter<'_>) -> fmt::Result {
+        let Readings { bytes, whole, ended, long, accepted, refused } = self;
+        write!(
+            out,
+            "{bytes} bytes; {whole} runs read to the end, {ended} ended by a refusal, {long} long; \
+             {accepted} blocks accepted, {refused} turned away"
+        )
+    }
 }
 
 /// Whether a program prints the expected text and ends well. If not, says so,

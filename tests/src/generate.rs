@@ -4,10 +4,12 @@
 //! * [`sheets`] — sheets: scarce balances, chains, self payments, contracts;
 //! * [`blocks`] — deliveries: ranks, cuts, turns and citations of every habit;
 //! * [`spoil`] — blocks that are to be turned away (8 to 15 and 17);
-//! * [`damage`] — slips and runs that are not sound (1 to 7).
+//! * [`damage`] — slips and runs that are not sound (1 to 7);
+//! * [`full`] — one run that fills 65,536 bytes.
 
 pub mod blocks;
 pub mod damage;
+pub mod full;
 pub mod random;
 pub mod sheets;
 pub mod spoil;
@@ -89,13 +91,30 @@ pub fn bytes(seed: u64) -> Vec<u8> {
         70..94 => Size::Medium,
         _ => Size::Large,
     };
+    any(&mut random, size)
+}
+
+/// The bytes that a seed stands for in the long comparison. Every tenth run
+/// is that of [`bytes`]; the others are tiny or small, so that a million of
+/// them are read within the hour.
+pub fn mostly_small(seed: u64) -> Vec<u8> {
+    if seed.is_multiple_of(10) {
+        return bytes(seed);
+    }
+    let mut random = Random::new(seed);
+    let size = random.pick(&[Size::Tiny, Size::Tiny, Size::Tiny, Size::Small, Size::Small]);
+    any(&mut random, size)
+}
+
+/// A run of a size: sound, noisy or damaged.
+fn any(random: &mut Random, size: Size) -> Vec<u8> {
     let noise = random.pick(&[0, 0, 5, 20, 50]);
-    let run = run(&mut random, size, noise);
+    let run = run(random, size, noise);
     match (size, random.below(100)) {
-        (_, 0..3) => damage::near_the_limit(&mut random, &run),
-        (_, 3..25) => damage::damaged(&mut random, &run),
+        (_, 0..3) => damage::near_the_limit(random, &run),
+        (_, 3..25) => damage::damaged(random, &run),
         // Small sheets are quickly read, so they carry most of the faults.
-        (Size::Tiny, 25..65) | (Size::Small, 25..35) => damage::one_fault(&mut random, &run),
+        (Size::Tiny, 25..65) | (Size::Small, 25..35) => damage::one_fault(random, &run),
         _ => run.bytes(),
     }
 }

@@ -9,12 +9,18 @@
 //! * [`generate`] — seeded runs of every size, sound, noisy and damaged.
 //! * [`replay`] — the same instance logs, delivered in another order.
 //! * [`cases`] — named runs with the text that the paper gives for them.
+//! * [`examples`] — the runs that ship in `examples/`.
+//! * [`stored`] — the runs that the program `stored_runs` reads in the gate.
 //! * [`compare`] — another program's readings against the second engine's.
+//! * [`timing`] — how long a program takes for the largest run that it reads.
 
 pub mod cases;
 pub mod compare;
 pub mod engine;
+pub mod examples;
 pub mod generate;
 pub mod replay;
+pub mod stored;
+pub mod timing;
 
 pub use engine::reading;

@@ -1,17 +1,22 @@
 //! `crosscheck`: runs, readings and comparisons from the command line.
 
 use std::io::{self, Read, Write};
+use std::path::Path;
 use std::process::ExitCode;
 use std::{env, fs};
 
 use crosscheck::compare::{self, Program};
-use crosscheck::{generate, reading};
+use crosscheck::{examples, generate, reading, stored, timing};
 
 const USAGE: &str = "\
 usage: crosscheck gen SEED OUTFILE         write the run of a seed
        crosscheck read FILE                print the second engine's reading (- for standard input)
        crosscheck compare PROGRAM N SEED   compare PROGRAM on the runs of N seeds from SEED on
+       crosscheck long PROGRAM N SEED      the same over a great many runs, most of them small, with progress
        crosscheck cases PROGRAM            compare PROGRAM on the named cases
+       crosscheck time PROGRAM ROUNDS      time PROGRAM and the second engine on the largest run that fits
+       crosscheck examples FOLDER          write the runs that ship with the repository, with their readings
+       crosscheck stored FOLDER            write what the program of crates/stored_runs, the FOLDER, reads and prints
 PROGRAM is a command that reads a run on standard input and prints its reading.";
 
 fn main() -> ExitCode {
@@ -45,13 +50,28 @@ fn perform(words: &[&str]) -> io::Result<Option<bool>> {
             io::stdout().write_all(&reading(&input(file)?))?;
             Ok(Some(true))
         }
-        ["compare", program, count, seed] => {
+        [command @ ("compare" | "long"), program, count, seed] => {
             let (Some(program), Ok(count), Ok(seed)) =
                 (Program::new(program), count.parse(), seed.parse())
             else {
                 return Ok(None);
             };
-            compare::seeds(&program, count, seed).map(Some)
+            let all = if *command == "long" { compare::long } else { compare::seeds };
+            all(&program, count, seed).map(Some)
+        }
+        ["time", program, rounds] => {
+            let (Some(program), Ok(rounds)) = (Program::new(program), rounds.parse()) else {
+                return Ok(None);
+            };
+            timing::full(&program, rounds).map(Some)
+        }
+        ["examples", folder] => {
+            examples::write(Path::new(folder))?;
+            Ok(Some(true))
+        }
+        ["stored", folder] => {
+            stored::write(Path::new(folder))?;
+            Ok(Some(true))
         }
         ["cases", program] => {
             let Some(program) = Program::new(program) else {

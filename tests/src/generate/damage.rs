@@ -98,10 +98,21 @@ fn replace(random: &mut Random, slips: &mut [Vec<u8>], place: usize, mut faulty:
     }
 }
 
-/// A run with refused blocks behind it, so that it has 65,536 bytes or one or
-/// two more or less. Every slip has an even number of bytes, so that 65,536
-/// can be met exactly.
+/// A run with 65,536 bytes, or one or two more or less.
 pub fn near_the_limit(random: &mut Random, run: &Run) -> Vec<u8> {
+    let mut bytes = filled(run);
+    match random.below(4) {
+        0 => bytes.push(0),
+        1 => bytes.extend([0; 2]),
+        2 => bytes.truncate(LONGEST_RUN - 1),
+        _ => {}
+    }
+    bytes
+}
+
+/// A run with refused blocks behind it, so that it has 65,536 bytes. Every
+/// slip has an even number of bytes, so that this can be met exactly.
+pub fn filled(run: &Run) -> Vec<u8> {
     let m = run.sheet.head.m;
     let nobody = |citations| {
         let citations = vec![0; citations];
@@ -118,12 +129,6 @@ pub fn near_the_limit(random: &mut Random, run: &Run) -> Vec<u8> {
         let left = LONGEST_RUN - bytes.len();
         let next = if left <= longest { left } else { longest.min(left - shortest) };
         bytes.extend(nobody((next - shortest) / 2));
-    }
-    match random.below(4) {
-        0 => bytes.push(0),
-        1 => bytes.extend([0; 2]),
-        2 => bytes.truncate(LONGEST_RUN - 1),
-        _ => {}
     }
     bytes
 }

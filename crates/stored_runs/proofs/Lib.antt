@@ -1,0 +1,2 @@
+-- Texts compared byte by byte.
+pub mod SameLaws
