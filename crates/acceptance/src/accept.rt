@@ -39,8 +39,17 @@ pub fn take_block(
     block: Block,
     list: Citations,
 ) -> Ledger
-    requires { ⌜ Takeable ledger (kept (now sheet) (now ranks) (now cuts) (now cites) (now good)) (buffers (now counts) (now table) (now order)) (valuesOf block list) ⌝ }
-    ensures { λ r. ⌜ Takes ledger (kept (now (sheet .entry)) (now (ranks .entry)) (now (cuts .entry)) (now (cites .entry)) (now (good .entry))) (buffers (now (counts .entry)) (now (table .entry)) (now (order .entry))) (valuesOf block list) r (kept (now (sheet .entry)) (now (ranks .exit)) (now (cuts .exit)) (now (cites .exit)) (now (good .exit))) (buffers (now (counts .exit)) (now (table .exit)) (now (order .exit))) ⌝ }
+    requires { ⌜ Takeable ledger
+        (kept (now sheet) (now ranks) (now cuts) (now cites) (now good))
+        (buffers (now counts) (now table) (now order))
+        (valuesOf block list) ⌝ }
+    ensures { λ r. ⌜ Takes ledger
+        (kept (now (sheet .entry)) (now (ranks .entry)) (now (cuts .entry)) (now (cites .entry)) (now (good .entry)))
+        (buffers (now (counts .entry)) (now (table .entry)) (now (order .entry)))
+        (valuesOf block list)
+        r
+        (kept (now (sheet .entry)) (now (ranks .exit)) (now (cuts .exit)) (now (cites .exit)) (now (good .exit)))
+        (buffers (now (counts .exit)) (now (table .exit)) (now (order .exit))) ⌝ }
 {
     let old = ledger.heights;
     let heights = usable_counts(ranks, old);

@@ -56,7 +56,10 @@ fn part_good(
     order: &mut [u16],
 ) -> bool
     requires { ⌜ Judgeable z (now ranks) cut i (p / 32) (buffers (now counts) (now table) (now order)) ⌝ }
-    ensures { λ r. ⌜ (r ≡ goodAt (sheetIn (now (sheet .entry)) z) (now (ranks .entry)) (now (cites .entry)) cut i p (now (good .entry))) × Beyond z (buffers (now (counts .entry)) (now (table .entry)) (now (order .entry))) (buffers (now (counts .exit)) (now (table .exit)) (now (order .exit))) ⌝ }
+    ensures { λ r. ⌜ (r ≡ goodAt (sheetIn (now (sheet .entry)) z) (now (ranks .entry)) (now (cites .entry)) cut i p (now (good .entry)))
+        × Beyond z
+        (buffers (now (counts .entry)) (now (table .entry)) (now (order .entry)))
+        (buffers (now (counts .exit)) (now (table .exit)) (now (order .exit))) ⌝ }
 {
     let x = cite_at(cites, i, p);
     if z.t <= x {
@@ -93,7 +96,10 @@ fn judge_place(
     order: &mut [u16],
 )
     requires { ⌜ Judgeable z (now ranks) cut i (p / 32) (buffers (now counts) (now table) (now order)) ⌝ }
-    ensures { λ _. ⌜ (now (good .exit) ≡ judgedGood (sheetIn (now (sheet .entry)) z) (now (ranks .entry)) (now (cites .entry)) cut i p (now (good .entry))) × Beyond z (buffers (now (counts .entry)) (now (table .entry)) (now (order .entry))) (buffers (now (counts .exit)) (now (table .exit)) (now (order .exit))) ⌝ }
+    ensures { λ _. ⌜ (now (good .exit) ≡ judgedGood (sheetIn (now (sheet .entry)) z) (now (ranks .entry)) (now (cites .entry)) cut i p (now (good .entry)))
+        × Beyond z
+        (buffers (now (counts .entry)) (now (table .entry)) (now (order .entry)))
+        (buffers (now (counts .exit)) (now (table .exit)) (now (order .exit))) ⌝ }
 {
     let fine = part_good(
         sheet,
@@ -126,7 +132,13 @@ pub fn judge_block(
     order: &mut [u16],
 )
     requires { ⌜ (h < 128) × Judgeable z (now ranks) cut i h (buffers (now counts) (now table) (now order)) ⌝ }
-    ensures { λ _. ⌜ (now (good .exit) ≡ foldTo 32 (λ q. judgedGood (sheetIn (now (sheet .entry)) z) (now (ranks .entry)) (now (cites .entry)) cut i (h * 32 + q)) (now (good .entry))) × Beyond z (buffers (now (counts .entry)) (now (table .entry)) (now (order .entry))) (buffers (now (counts .exit)) (now (table .exit)) (now (order .exit))) ⌝ }
+    ensures { λ _. ⌜ (now (good .exit)
+        ≡ foldTo 32
+        (λ q. judgedGood (sheetIn (now (sheet .entry)) z) (now (ranks .entry)) (now (cites .entry)) cut i (h * 32 + q))
+        (now (good .entry)))
+        × Beyond z
+        (buffers (now (counts .entry)) (now (table .entry)) (now (order .entry)))
+        (buffers (now (counts .exit)) (now (table .exit)) (now (order .exit))) ⌝ }
 {
     for q in 0..32u16 {
         judge_place(

@@ -59,7 +59,15 @@ pub fn store_block(
     block: Block,
     list: Citations,
 )
-    ensures { λ _. ⌜ Stores block (citesIn list) n (now (ranks .entry)) (now (cuts .entry)) (now (cites .entry)) (now (ranks .exit)) (now (cuts .exit)) (now (cites .exit)) ⌝ }
+    ensures { λ _. ⌜ Stores block
+        (citesIn list)
+        n
+        (now (ranks .entry))
+        (now (cuts .entry))
+        (now (cites .entry))
+        (now (ranks .exit))
+        (now (cuts .exit))
+        (now (cites .exit)) ⌝ }
 {
     let i = block.instance;
     let rank = block.rank;

@@ -26,7 +26,14 @@ pub fn accounts_beside(
     held: &mut [u64],
     room: usize,
 ) -> Checked
-    ensures { λ r. ⌜ ReadsBeside ledger (kept (now (sheet .entry)) (now (ranks .entry)) [] (now (cites .entry)) (now (good .entry))) (buffers (now (counts .entry)) (now (table .entry)) (now (order .entry))) (now (free .entry) ∷ now (held .entry) ∷ []) room (replyTo r) (buffers (now (counts .exit)) (now (table .exit)) (now (order .exit))) (now (free .exit) ∷ now (held .exit) ∷ []) ⌝ }
+    ensures { λ r. ⌜ ReadsBeside ledger
+        (kept (now (sheet .entry)) (now (ranks .entry)) [] (now (cites .entry)) (now (good .entry)))
+        (buffers (now (counts .entry)) (now (table .entry)) (now (order .entry)))
+        (now (free .entry) ∷ now (held .entry) ∷ [])
+        room
+        (replyTo r)
+        (buffers (now (counts .exit)) (now (table .exit)) (now (order .exit)))
+        (now (free .exit) ∷ now (held .exit) ∷ []) ⌝ }
 {
     let z = sizes(ledger);
     let a = z.a as usize;

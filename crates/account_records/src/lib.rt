@@ -33,7 +33,15 @@ pub fn account_records(
     held: &mut [u64],
     records: &mut [Account],
 ) -> Checked
-    ensures { λ r. ⌜ ReadsRecords ledger (kept (now (sheet .entry)) (now (ranks .entry)) [] (now (cites .entry)) (now (good .entry))) (buffers (now (counts .entry)) (now (table .entry)) (now (order .entry))) (now (free .entry) ∷ now (held .entry) ∷ []) (now (records .entry)) (replyTo r) (buffers (now (counts .exit)) (now (table .exit)) (now (order .exit))) (now (free .exit) ∷ now (held .exit) ∷ []) (now (records .exit)) ⌝ }
+    ensures { λ r. ⌜ ReadsRecords ledger
+        (kept (now (sheet .entry)) (now (ranks .entry)) [] (now (cites .entry)) (now (good .entry)))
+        (buffers (now (counts .entry)) (now (table .entry)) (now (order .entry)))
+        (now (free .entry) ∷ now (held .entry) ∷ [])
+        (now (records .entry))
+        (replyTo r)
+        (buffers (now (counts .exit)) (now (table .exit)) (now (order .exit)))
+        (now (free .exit) ∷ now (held .exit) ∷ [])
+        (now (records .exit)) ⌝ }
 {
     let answer = accounts_beside(
         ledger,

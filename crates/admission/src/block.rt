@@ -54,7 +54,8 @@ fn check_lists(
     block: Block,
     list: Citations,
 ) -> Checked
-    ensures { λ r. ⌜ replyTo r ≡ listsAnswer (sheetIn (now (sheet .entry)) z) (historyIn (countIn heights) [] (now (cuts .entry)) (now (cites .entry))) (valuesOf block list) ⌝ }
+    ensures { λ r. ⌜ replyTo r
+        ≡ listsAnswer (sheetIn (now (sheet .entry)) z) (historyIn (countIn heights) [] (now (cuts .entry)) (now (cites .entry))) (valuesOf block list) ⌝ }
 {
     let cut = block.cut;
     let order = check_order(z.m, heights, cuts, block);
@@ -79,7 +80,11 @@ pub fn check_block(
     block: Block,
     list: Citations,
 ) -> Checked
-    ensures { λ r. ⌜ replyTo r ≡ blockAnswer (sheetIn (now (sheet .entry)) z) (historyIn (countIn heights) (now (ranks .entry)) (now (cuts .entry)) (now (cites .entry))) (valuesOf block list) ⌝ }
+    ensures { λ r. ⌜ replyTo r
+        ≡ blockAnswer
+        (sheetIn (now (sheet .entry)) z)
+        (historyIn (countIn heights) (now (ranks .entry)) (now (cuts .entry)) (now (cites .entry)))
+        (valuesOf block list) ⌝ }
 {
     let i = block.instance;
     if z.m <= i {

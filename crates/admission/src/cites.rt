@@ -97,7 +97,8 @@ pub fn check_cites(
     block: Block,
     list: Citations,
 ) -> Checked
-    ensures { λ r. ⌜ replyTo r ≡ firstTo (length (citesIn list)) (citeAnswer (sheetIn (now (sheet .entry)) z) (citesOnly heights (now (cites .entry))) (valuesOf block list)) ⌝ }
+    ensures { λ r. ⌜ replyTo r
+        ≡ firstTo (length (citesIn list)) (citeAnswer (sheetIn (now (sheet .entry)) z) (citesOnly heights (now (cites .entry))) (valuesOf block list)) ⌝ }
 {
     let n = size(list);
     for q in 0..n {

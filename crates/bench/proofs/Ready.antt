@@ -4,7 +4,6 @@ use Prim.Native.Nat.{_*_, _+_, _/_, _<_, _≤_, ℕ}
 use borrow.Author.Tests.{le-leb, le-ltb, leb-true, lt-leb, lt-ltb, ltb-true}
 use lib.Dec.{leb, ltb}
 use lib.ListN.{getD, getD-replicate, length, replicate, take}
-use lib.Seq.{getD-take}
 use mathlib.Core.Bool.{Bool, false, true}
 use mathlib.Core.List.{List}
 use mathlib.Core.Path.{_∙_, _≡_, ap, ap₂, refl, sym}
@@ -128,11 +127,11 @@ module _ (u : Bool) (z : Sizes) (S : Sheet) (R : Rows) (v : View) (before after 
       never : true ≡ false → ⊥
       never w = let z' : _≡_ {A = ℕ} 0 1 = cc in omega arith
 
-  pub timed-so : u ≡ true → Settled z S R v before after → (cells : List ℕ) → take (z .g) cells ≡ contracts S R v .registers → (c : ℕ) → c ≡ getD cells which 0
+  pub timed-so : u ≡ true → Settled z S R v before after → (cells : List ℕ) → take (z .g) cells ≡ contracts S R v .registers → (c : ℕ) → c ≡ getD (take (z .g) cells) which 0
       → r ≡ 4294967296 + c → Timed u z S R v before after which r
   timed-so t s cells ec c e q = record {
     settled = λ w. s;
-    register = λ w l. q ∙ ap (λ (n : ℕ). 4294967296 + n) (e ∙ sym (getD-take (z .g) cells which 0 l) ∙ ap (λ (k : List ℕ). getD k which 0) ec);
+    register = λ w. q ∙ ap (λ (n : ℕ). 4294967296 + n) (e ∙ ap (λ (k : List ℕ). getD k which 0) ec);
     nothing = λ w. absurd (never (sym t ∙ w));
   }
     where

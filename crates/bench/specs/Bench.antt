@@ -32,8 +32,8 @@ ready z ranks b counts table order =
     (both (leb (2 * z .t) counts)
     (both (leb (z .t) table) (both (leb (128 * z .m) order) (both (leb b 128) (allTo (z .m) (rises ranks b)))))))
 
--- where u, the view is settled in the buffers and r gives a register; else nothing is done
+-- where u, the view is settled in the buffers and r gives a register, 0 from g on; else nothing is done
 pub record Timed (u : Bool) (z : Sizes) (S : Sheet) (R : Rows) (v : View) (before after : Buffers) (which r : ℕ) : Type 0 where
   pub settled : u ≡ true → Settled z S R v before after
-  pub register : u ≡ true → which < z .g → r ≡ 4294967296 + getD (contracts S R v .registers) which 0
+  pub register : u ≡ true → r ≡ 4294967296 + getD (contracts S R v .registers) which 0
   pub nothing : u ≡ false → (r ≡ 0) × (after ≡ before)

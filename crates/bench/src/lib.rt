@@ -2,7 +2,7 @@
 use ordering::rank_at;
 use settlement::settle::settle;
 use sheets::sheet::Sizes;
-ghost use lib.ListN.{getD, length, replicate};
+ghost use lib.ListN.{getD, length, replicate, take};
 ghost use mathlib.Core.List.{map};
 ghost use mathlib.Core.Path.{_≡_};
 ghost use Prim.Native.Nat.{_/_};
@@ -81,23 +81,34 @@ fn is_ready(z: Sizes, ranks: &[u32], b: u16, counts: usize, table: usize, order:
     all_rise(ranks, b, z.m)
 }
 
-fn register(cells: [u32; 64], i: u8) -> u32
+fn cell(cells: [u32; 64], i: u16) -> u32
     ensures { λ r. ⌜ r ≡ getD cells i 0 ⌝ }
 {
     let at = i as usize;
     if at < 64 { cells[at] } else { 0 }
 }
 
+// Register i of g; 0 where there is none.
+fn register(cells: [u32; 64], g: u16, i: u16) -> u32
+    ensures { λ r. ⌜ r ≡ getD (take g cells) i 0 ⌝ }
+{
+    if i < g { cell(cells, i) } else { 0 }
+}
+
 // The log of a table of ranks with the same number of blocks in each instance, written over the front of `order`. Returns how many blocks it has.
 #[no_mangle]
 pub extern "C" fn bench_log(ranks: &[u32], m: u16, blocks: u16, order: &mut [u16]) -> usize
-    ensures { λ r. ⌜ (r ≡ length (globalLog m (rankIn (now (ranks .entry))) (usable (rankIn (now (ranks .entry))) (countIn (replicate 16 blocks))))) × (now (order .exit) ≡ fill (map blockId (globalLog m (rankIn (now (ranks .entry))) (usable (rankIn (now (ranks .entry))) (countIn (replicate 16 blocks))))) (now (order .entry))) ⌝ }
+    ensures { λ r. ⌜ (r ≡ length (globalLog m (rankIn (now (ranks .entry))) (usable (rankIn (now (ranks .entry))) (countIn (replicate 16 blocks)))))
+        × (now (order .exit)
+        ≡ fill
+        (map blockId (globalLog m (rankIn (now (ranks .entry))) (usable (rankIn (now (ranks .entry))) (countIn (replicate 16 blocks)))))
+        (now (order .entry))) ⌝ }
 {
     let full = [blocks; 16];
     ordering::view_log(m, ranks, full, order)
 }
 
-// Settles the view of the first `places` places of each instance, and returns 2^32 + its register `which`; 0, and nothing done, where it may not be asked for.
+// Settles the view of the first `places` places of each instance, and returns 2^32 + its register `which`, which is 0 from g on; 0, and nothing done, where it may not be asked for.
 #[no_mangle]
 pub extern "C" fn bench_settle(
     sheet: &[u8],
@@ -112,9 +123,17 @@ pub extern "C" fn bench_settle(
     counts: &mut [u32],
     table: &mut [u8],
     order: &mut [u16],
-    which: u8,
+    which: u16,
 ) -> u64
-    ensures { λ r. ⌜ Timed (ready (sizes m a g t) (now (ranks .entry)) (places / 32) (length (now (counts .entry))) (length (now (table .entry))) (length (now (order .entry)))) (sizes m a g t) (sheetIn (now (sheet .entry)) (sizes m a g t)) (rowsIn (now (ranks .entry)) (now (cites .entry)) (now (good .entry))) (countIn (replicate 16 places)) (buffers (now (counts .entry)) (now (table .entry)) (now (order .entry))) (buffers (now (counts .exit)) (now (table .exit)) (now (order .exit))) which r ⌝ }
+    ensures { λ r. ⌜ Timed
+        (ready (sizes m a g t) (now (ranks .entry)) (places / 32) (length (now (counts .entry))) (length (now (table .entry))) (length (now (order .entry))))
+        (sizes m a g t)
+        (sheetIn (now (sheet .entry)) (sizes m a g t))
+        (rowsIn (now (ranks .entry)) (now (cites .entry)) (now (good .entry)))
+        (countIn (replicate 16 places))
+        (buffers (now (counts .entry)) (now (table .entry)) (now (order .entry)))
+        (buffers (now (counts .exit)) (now (table .exit)) (now (order .exit)))
+        which r ⌝ }
 {
     let z = Sizes { m, a, g, t };
     if !is_ready(
@@ -129,5 +148,5 @@ pub extern "C" fn bench_settle(
     }
     let view = [places; 16];
     let cells = settle(sheet, ranks, cites, good, z, view, counts, table, order);
-    4294967296 + (register(cells, which) as u64)
+    4294967296 + (register(cells, g, which) as u64)
 }

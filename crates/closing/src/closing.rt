@@ -28,7 +28,14 @@ pub fn put_readings(
     at: usize,
 ) -> usize
     requires { ⌜ (complete ledger ≡ true) × Ample (kept (now sheet) (now ranks) [] (now cites) (now good)) (buffers (now counts) (now table) (now order)) ⌝ }
-    ensures { λ r. ⌜ Closes ledger (kept (now (sheet .entry)) (now (ranks .entry)) [] (now (cites .entry)) (now (good .entry))) (buffers (now (counts .entry)) (now (table .entry)) (now (order .entry))) (now (out .entry)) at (buffers (now (counts .exit)) (now (table .exit)) (now (order .exit))) (now (out .exit)) r ⌝ }
+    ensures { λ r. ⌜ Closes ledger
+        (kept (now (sheet .entry)) (now (ranks .entry)) [] (now (cites .entry)) (now (good .entry)))
+        (buffers (now (counts .entry)) (now (table .entry)) (now (order .entry)))
+        (now (out .entry))
+        at
+        (buffers (now (counts .exit)) (now (table .exit)) (now (order .exit)))
+        (now (out .exit))
+        r ⌝ }
 {
     let z = sizes(ledger);
     let mut instances = [0u16; 2048];

@@ -21,11 +21,11 @@ frameBytes kind body = leBytes 4 (2 + length body) ++ (leBytes 2 kind ++ body)
 unfoldable pub headerBody : Header → List ℕ
 headerBody h = leBytes 2 (h .m) ++ (leBytes 2 (h .a) ++ (leBytes 2 (h .g) ++ leBytes 2 (h .t)))
 
--- kind 2: "balances of 8 bytes"
+-- kind 2: "a balances of 8 bytes"
 unfoldable pub balancesBody : List ℕ → List ℕ
 balancesBody l = listBytes (leBytes 8) 0 l
 
--- "an account (2) and an amount (4)"
+-- "an account (2) and an amount (4, ..)"
 abbrev pub entryBytes : Entry → List ℕ
 entryBytes e = leBytes 2 (e .account) ++ leBytes 4 (e .amount)
 
@@ -39,7 +39,7 @@ entriesBytes l = listBytes entryBytes noEntry l
 abbrev pub operationsBytes : List Operation → List ℕ
 operationsBytes l = listBytes operationBytes noOperation l
 
--- kind 3: "bytes: type, d debits, c credits, o operations; then the lists", each after the one before it
+-- kind 3: bytes for the type and the three counts, "then the lists", each after the one before it
 unfoldable pub transactionBody : Transaction → List ℕ
 transactionBody t =
     t .kind ∷ length (t .debits) ∷ length (t .credits) ∷ length (t .operations) ∷ (entriesBytes (t .debits) ++ (entriesBytes (t .credits) ++ operationsBytes (t .operations)))
@@ -52,7 +52,7 @@ numbersBytes l = listBytes (leBytes 2) 0 l
 abbrev pub cutBytes : ℕ → List ℕ → List ℕ
 cutBytes m cut = numbersBytes (tabulate m (λ j. getD cut j 0))
 
--- "instance (2), sequence number (2), rank (4), count (2)"
+-- "instance (2), sequence number (2), rank (4), count (2, ..)"
 abbrev pub fixedBytes : Block → ℕ → List ℕ
 fixedBytes b count = leBytes 2 (b .instance) ++ (leBytes 2 (b .sequence .0) ++ (leBytes 4 (b .rank .0) ++ leBytes 2 count))
 

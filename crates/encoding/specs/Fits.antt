@@ -1,4 +1,4 @@
--- Contents whose numbers fit their fields, as those of the code's types do.
+-- Contents whose numbers fit the fields of document 01's kinds table, as those of the code's types do.
 -- Assumes nothing.
 use Prim.Native.Nat.{_<_, ℕ}
 use lib.ListN.{getD, length}

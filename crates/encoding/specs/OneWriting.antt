@@ -1,4 +1,4 @@
--- "each content has one writing": the statement that the theorem `one-writing` of proofs/ proves.
+-- Demand 2, "each content has one writing": the statement that the theorem `one-writing` of proofs/ proves.
 -- Assumes nothing.
 use Prim.Native.Nat.{_+_, _-_, ℕ}
 use lib.ListN.{drop, length, take}

@@ -7,9 +7,9 @@ use Rattle.escrow.specs.Amounts.{free, held, isPending}
 use Rattle.escrow.specs.Outcome.{History, fullView, outcome, rowsOf}
 use Rattle.ordering.specs.Order.{Ref}
 use Rattle.settlement.specs.Contracts.{Status}
-use Rattle.settlement.specs.Settlement.{contracts, status}
+use Rattle.settlement.specs.Settlement.{status}
 use Rattle.settlement.specs.View.{Rows, viewLog}
-use Rattle.sheets.specs.Sheet.{Sheet, txCount}
+use Rattle.sheets.specs.Sheet.{Sheet}
 use Rattle.sums.specs.Sum.{sumTo}
 use Rattle.sums.specs.Test.{flip, pick}
 
@@ -25,10 +25,6 @@ logAll S H = viewLog S (rowsAll S H) (fullView H)
 unfoldable pub statusAll : Sheet → History → ℕ → Status
 statusAll S H = status S (rowsAll S H) (fullView H)
 
--- `register`
-unfoldable pub registersAll : Sheet → History → List ℕ
-registersAll S H = contracts S (rowsAll S H) (fullView H) .registers
-
 -- `account`: free, held
 unfoldable pub freeAll : Sheet → History → ℕ → ℕ
 freeAll S H = free S (rowsAll S H) (fullView H)
@@ -39,6 +35,3 @@ heldAll S H = held S (rowsAll S H) (fullView H)
 -- `share`: "settled transactions (paid or returned) in thousandths of t, rounded down, 1000 if t is 0"
 unfoldable pub shareOf : ℕ → (ℕ → Status) → ℕ
 shareOf t st = pick (eqb t 0) 1000 (sumTo t (λ x. flip (isPending (st x))) * 1000 / t)
-
-unfoldable pub shareAll : Sheet → History → ℕ
-shareAll S H = shareOf (txCount S) (statusAll S H)

@@ -41,7 +41,8 @@ fn out_at(
     k: u16,
     p: u16,
 ) -> u64
-    ensures { λ r. ⌜ (r ≡ outAt (sheetIn (now (sheet .entry)) z) (rowsIn [] (now (cites .entry)) (now (good .entry))) (statusIn z (now (table .entry))) all h k p) × (r ≤ 1095216660225) ⌝ }
+    ensures { λ r. ⌜ (r ≡ outAt (sheetIn (now (sheet .entry)) z) (rowsIn [] (now (cites .entry)) (now (good .entry))) (statusIn z (now (table .entry))) all h k p)
+        × (r ≤ 1095216660225) ⌝ }
 {
     if !good_at(good, h, p) {
         return 0;
@@ -65,7 +66,9 @@ fn debits_out(
     k: u16,
     n: u16,
 ) -> u64
-    ensures { λ r. ⌜ (r ≡ debitsOut (sheetIn (now (sheet .entry)) z) (rowsIn [] (now (cites .entry)) (now (good .entry))) (statusIn z (now (table .entry))) all h k n) × (r ≤ n * 1095216660225) ⌝ }
+    ensures { λ r. ⌜ (r
+        ≡ debitsOut (sheetIn (now (sheet .entry)) z) (rowsIn [] (now (cites .entry)) (now (good .entry))) (statusIn z (now (table .entry))) all h k n)
+        × (r ≤ n * 1095216660225) ⌝ }
 {
     let mut sum: u64 = 0;
     for p in 0..n {

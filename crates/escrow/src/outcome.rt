@@ -33,7 +33,12 @@ fn debit_good(
     j: u16,
     i: u8,
 ) -> bool
-    ensures { λ r. ⌜ r ≡ debitGood (sheetIn (now (sheet .entry)) z) (freeIn (now (sheet .entry)) z (now (cites .entry)) (now (good .entry)) view (now (table .entry))) (entryIn (now (list .entry))) j i ⌝ }
+    ensures { λ r. ⌜ r
+        ≡ debitGood
+        (sheetIn (now (sheet .entry)) z)
+        (freeIn (now (sheet .entry)) z (now (cites .entry)) (now (good .entry)) view (now (table .entry)))
+        (entryIn (now (list .entry)))
+        j i ⌝ }
 {
     let k = account_at(list, i);
     if home_of(sheet, z, k) != j {
@@ -54,7 +59,9 @@ fn debits_good(
     n: u8,
     j: u16,
 ) -> bool
-    ensures { λ r. ⌜ r ≡ allTo n (debitGood (sheetIn (now (sheet .entry)) z) (freeIn (now (sheet .entry)) z (now (cites .entry)) (now (good .entry)) view (now (table .entry))) (entryIn (now (list .entry))) j) ⌝ }
+    ensures { λ r. ⌜ r
+        ≡ allTo n
+        (debitGood (sheetIn (now (sheet .entry)) z) (freeIn (now (sheet .entry)) z (now (cites .entry)) (now (good .entry)) view (now (table .entry))) (entryIn (now (list .entry))) j) ⌝ }
 {
     for i in 0..n {
         if !debit_good(sheet, cites, good, z, view, table, list, j, i) {
@@ -110,8 +117,19 @@ pub fn outcome(
     j: u16,
     x: u16,
 ) -> bool
-    requires { ⌜ (Ordered (z .m) (rankIn (now ranks)) (wholeOf (countIn view))) × (2 * z .t ≤ length (now counts)) × (z .t ≤ length (now table)) × (128 * z .m ≤ length (now order)) × (z .m ≤ 16) × (z .g ≤ 64) ⌝ }
-    ensures { λ r. ⌜ (Settled z (sheetIn (now (sheet .entry)) z) (rowsIn (now (ranks .entry)) (now (cites .entry)) (now (good .entry))) (countIn view) (buffers (now (counts .entry)) (now (table .entry)) (now (order .entry))) (buffers (now (counts .exit)) (now (table .exit)) (now (order .exit)))) × (r ≡ partGood (sheetIn (now (sheet .entry)) z) (rowsIn (now (ranks .entry)) (now (cites .entry)) (now (good .entry))) (countIn view) j x) ⌝ }
+    requires { ⌜ (Ordered (z .m) (rankIn (now ranks)) (wholeOf (countIn view)))
+        × (2 * z .t ≤ length (now counts))
+        × (z .t ≤ length (now table))
+        × (128 * z .m ≤ length (now order))
+        × (z .m ≤ 16)
+        × (z .g ≤ 64) ⌝ }
+    ensures { λ r. ⌜ (Settled z
+        (sheetIn (now (sheet .entry)) z)
+        (rowsIn (now (ranks .entry)) (now (cites .entry)) (now (good .entry)))
+        (countIn view)
+        (buffers (now (counts .entry)) (now (table .entry)) (now (order .entry)))
+        (buffers (now (counts .exit)) (now (table .exit)) (now (order .exit))))
+        × (r ≡ partGood (sheetIn (now (sheet .entry)) z) (rowsIn (now (ranks .entry)) (now (cites .entry)) (now (good .entry))) (countIn view) j x) ⌝ }
 {
     let _registers = settle(sheet, ranks, cites, good, z, view, counts, table, order);
     judge(sheet, cites, good, z, view, table, j, x)

@@ -1,5 +1,6 @@
--- The theorem `text-fits` (Bound), and its steps.
+-- The theorems `text-fits` (Bound), with its steps, and `buffers-fit` (BuffersFit).
 pub mod LogLaws
 pub mod FrameLaws
 pub mod OpeningLaws
 pub mod Bound
+pub mod BuffersFit

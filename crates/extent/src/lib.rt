@@ -1,1 +1,1 @@
-// How long the text of a reading can get: a theorem about the definition, with no function.
+// How much a caller has to lend at most: for the text of a reading, and for the buffers of a call. Theorems about the definitions, with no function.

@@ -1,4 +1,4 @@
--- Loading a sheet frame by frame into the caller's cells.
+-- Loading a sheet frame by frame into the caller's cells (document 01, "Slips": "A run is one head, one starts slip, t transactions in number order, then blocks").
 -- Assumes nothing.
 use Prim.Native.Nat.{ℕ}
 use lib.Dec.{eqb, ltb}

@@ -98,7 +98,12 @@ fn block_body(m: u16, block: Block, cites: &[u16]) -> [u8; 106]
 }
 
 pub fn write_block(out: &mut [u8], s: Loading, block: Block, count: u16, cites: &[u16]) -> Written
-    ensures { λ r. ⌜ Wrote (blockVerdict s (block .cut) count (length (now (cites .entry)))) (frameBytes 4 (blockBody (s .m) block (now (cites .entry)))) (now (out .entry)) (now (out .exit)) r ⌝ }
+    ensures { λ r. ⌜ Wrote
+        (blockVerdict s (block .cut) count (length (now (cites .entry))))
+        (frameBytes 4 (blockBody (s .m) block (now (cites .entry))))
+        (now (out .entry))
+        (now (out .exit))
+        r ⌝ }
 {
     let cut = block.cut;
     match block_verdict(s, cut, count, cites.len()) {

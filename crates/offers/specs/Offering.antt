@@ -1,4 +1,4 @@
--- What a call for an offer promises, whatever the ledger, the buffers and the offer are.
+-- What a call for an offer promises, whatever the ledger, the buffers and the offer are (document 01, "Plain ledger", and the order of refusals).
 -- Assumes nothing.
 use Prim.Native.Nat.{ℕ}
 use mathlib.Core.Bool.{false}
@@ -37,6 +37,7 @@ wholeAnswer l K kind b at =
     then blockAnswer (sheetOf l K) (pastIn (cellsOf l K)) (blockOf (parsedFrame (sheetOf l K .m) b at (Framed.Whole kind 0 0))))
     (refused 3 at)
 
+-- the offer o, made to the ledger l with the buffers K and W: it returns r and leaves K' and W'
 pub record Offers (l : Ledger) (K : Kept) (W : Buffers) (o : Offer) (r : Offered) (K' : Kept) (W' : Buffers) : Type 0 where
   pub answered : replyOf (r .answer) ≡ answerFrom l K o
   -- the sheet stays; the heights and the cells are those of an accepted block, or as they were

@@ -35,7 +35,12 @@ fn whole_verdict(
     content: &[u8],
     at: usize,
 ) -> Checked
-    ensures { λ r. ⌜ replyTo r ≡ wholeAnswer ledger (kept (now (sheet .entry)) (now (ranks .entry)) (now (cuts .entry)) (now (cites .entry)) []) kind (now (content .entry)) at ⌝ }
+    ensures { λ r. ⌜ replyTo r
+        ≡ wholeAnswer ledger
+        (kept (now (sheet .entry)) (now (ranks .entry)) (now (cuts .entry)) (now (cites .entry)) [])
+        kind
+        (now (content .entry))
+        at ⌝ }
 {
     if !is_complete(ledger) {
         return Checked::Refused(Refusal::KindNotDue(at));
@@ -70,7 +75,10 @@ pub fn frame_verdict(
     bytes: &[u8],
     at: usize,
 ) -> Answer
-    ensures { λ r. ⌜ replyOf r ≡ answerFrom ledger (kept (now (sheet .entry)) (now (ranks .entry)) (now (cuts .entry)) (now (cites .entry)) []) (offers.frame (needsList lent) (now (bytes .entry)) at) ⌝ }
+    ensures { λ r. ⌜ replyOf r
+        ≡ answerFrom ledger
+        (kept (now (sheet .entry)) (now (ranks .entry)) (now (cuts .entry)) (now (cites .entry)) [])
+        (offers.frame (needsList lent) (now (bytes .entry)) at) ⌝ }
 {
     if bytes.len() <= at {
         return Answer::NoByte;

@@ -32,7 +32,13 @@ pub fn offer_block(
     block: Block,
     citations: &[u16],
 ) -> Offered
-    ensures { λ r. ⌜ Offers ledger (kept (now (sheet .entry)) (now (ranks .entry)) (now (cuts .entry)) (now (cites .entry)) (now (good .entry))) (buffers (now (counts .entry)) (now (table .entry)) (now (order .entry))) (values (lengthsOf (kept (now (sheet .entry)) (now (ranks .entry)) (now (cuts .entry)) (now (cites .entry)) (now (good .entry))) (buffers (now (counts .entry)) (now (table .entry)) (now (order .entry)))) (valuesWith block (now (citations .entry)))) r (kept (now (sheet .entry)) (now (ranks .exit)) (now (cuts .exit)) (now (cites .exit)) (now (good .exit))) (buffers (now (counts .exit)) (now (table .exit)) (now (order .exit))) ⌝ }
+    ensures { λ r. ⌜ Offers ledger
+        (kept (now (sheet .entry)) (now (ranks .entry)) (now (cuts .entry)) (now (cites .entry)) (now (good .entry)))
+        (buffers (now (counts .entry)) (now (table .entry)) (now (order .entry)))
+        (values (lengthsOf (kept (now (sheet .entry)) (now (ranks .entry)) (now (cuts .entry)) (now (cites .entry)) (now (good .entry))) (buffers (now (counts .entry)) (now (table .entry)) (now (order .entry)))) (valuesWith block (now (citations .entry))))
+        r
+        (kept (now (sheet .entry)) (now (ranks .exit)) (now (cuts .exit)) (now (cites .exit)) (now (good .exit)))
+        (buffers (now (counts .exit)) (now (table .exit)) (now (order .exit))) ⌝ }
 {
     let lent = Lengths {
         sheet: sheet.len(),
@@ -81,7 +87,13 @@ pub fn offer_frame(
     bytes: &[u8],
     at: usize,
 ) -> Offered
-    ensures { λ r. ⌜ Offers ledger (kept (now (sheet .entry)) (now (ranks .entry)) (now (cuts .entry)) (now (cites .entry)) (now (good .entry))) (buffers (now (counts .entry)) (now (table .entry)) (now (order .entry))) (offers.frame (lengthsOf (kept (now (sheet .entry)) (now (ranks .entry)) (now (cuts .entry)) (now (cites .entry)) (now (good .entry))) (buffers (now (counts .entry)) (now (table .entry)) (now (order .entry)))) (now (bytes .entry)) at) r (kept (now (sheet .entry)) (now (ranks .exit)) (now (cuts .exit)) (now (cites .exit)) (now (good .exit))) (buffers (now (counts .exit)) (now (table .exit)) (now (order .exit))) ⌝ }
+    ensures { λ r. ⌜ Offers ledger
+        (kept (now (sheet .entry)) (now (ranks .entry)) (now (cuts .entry)) (now (cites .entry)) (now (good .entry)))
+        (buffers (now (counts .entry)) (now (table .entry)) (now (order .entry)))
+        (offers.frame (lengthsOf (kept (now (sheet .entry)) (now (ranks .entry)) (now (cuts .entry)) (now (cites .entry)) (now (good .entry))) (buffers (now (counts .entry)) (now (table .entry)) (now (order .entry)))) (now (bytes .entry)) at)
+        r
+        (kept (now (sheet .entry)) (now (ranks .exit)) (now (cuts .exit)) (now (cites .exit)) (now (good .exit)))
+        (buffers (now (counts .exit)) (now (table .exit)) (now (order .exit))) ⌝ }
 {
     let lent = Lengths {
         sheet: sheet.len(),

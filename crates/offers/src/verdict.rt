@@ -37,7 +37,11 @@ pub fn block_verdict(
     block: Block,
     list: Citations,
 ) -> Checked
-    ensures { λ r. ⌜ replyTo r ≡ blockAnswer (sheetOf ledger (kept (now (sheet .entry)) (now (ranks .entry)) (now (cuts .entry)) (now (cites .entry)) [])) (pastIn (cellsOf ledger (kept (now (sheet .entry)) (now (ranks .entry)) (now (cuts .entry)) (now (cites .entry)) []))) (valuesOf block list) ⌝ }
+    ensures { λ r. ⌜ replyTo r
+        ≡ blockAnswer
+        (sheetOf ledger (kept (now (sheet .entry)) (now (ranks .entry)) (now (cuts .entry)) (now (cites .entry)) []))
+        (pastIn (cellsOf ledger (kept (now (sheet .entry)) (now (ranks .entry)) (now (cuts .entry)) (now (cites .entry)) [])))
+        (valuesOf block list) ⌝ }
 {
     let old = ledger.heights;
     let heights = usable_counts(ranks, old);
@@ -64,7 +68,10 @@ pub fn values_verdict(
     block: Block,
     citations: &[u16],
 ) -> Answer
-    ensures { λ r. ⌜ replyOf r ≡ answerFrom ledger (kept (now (sheet .entry)) (now (ranks .entry)) (now (cuts .entry)) (now (cites .entry)) []) (values (needsList lent) (valuesWith block (now (citations .entry)))) ⌝ }
+    ensures { λ r. ⌜ replyOf r
+        ≡ answerFrom ledger
+        (kept (now (sheet .entry)) (now (ranks .entry)) (now (cuts .entry)) (now (cites .entry)) [])
+        (values (needsList lent) (valuesWith block (now (citations .entry)))) ⌝ }
 {
     let room = check_lengths(least_lengths(ledger), lent);
     if !is_fine(room) {

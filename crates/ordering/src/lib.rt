@@ -108,7 +108,8 @@ fn put(out: &mut [u16], at: usize, v: u16)
 // Returns how many the log has.
 pub fn global_log(m: u16, ranks: &[u32], full: [u16; 16], out: &mut [u16]) -> usize
     requires { ⌜ Ordered m (rankIn (now ranks)) (countIn full) ⌝ }
-    ensures { λ r. ⌜ (r ≡ length (globalLog m (rankIn (now (ranks .entry))) (countIn full))) × (now (out .exit) ≡ fill (map blockId (globalLog m (rankIn (now (ranks .entry))) (countIn full))) (now (out .entry))) ⌝ }
+    ensures { λ r. ⌜ (r ≡ length (globalLog m (rankIn (now (ranks .entry))) (countIn full)))
+        × (now (out .exit) ≡ fill (map blockId (globalLog m (rankIn (now (ranks .entry))) (countIn full))) (now (out .entry))) ⌝ }
 {
     let stop = bar(m, ranks, full);
     let mut cursors = [0u16; 16];
@@ -167,7 +168,9 @@ pub fn usable_counts(ranks: &[u32], full: [u16; 16]) -> [u16; 16]
 
 // The global log of any table: nothing is asked of the caller.
 pub fn view_log(m: u16, ranks: &[u32], full: [u16; 16], out: &mut [u16]) -> usize
-    ensures { λ r. ⌜ (r ≡ length (globalLog m (rankIn (now (ranks .entry))) (usable (rankIn (now (ranks .entry))) (countIn full)))) × (now (out .exit) ≡ fill (map blockId (globalLog m (rankIn (now (ranks .entry))) (usable (rankIn (now (ranks .entry))) (countIn full)))) (now (out .entry))) ⌝ }
+    ensures { λ r. ⌜ (r ≡ length (globalLog m (rankIn (now (ranks .entry))) (usable (rankIn (now (ranks .entry))) (countIn full))))
+        × (now (out .exit)
+        ≡ fill (map blockId (globalLog m (rankIn (now (ranks .entry))) (usable (rankIn (now (ranks .entry))) (countIn full)))) (now (out .entry))) ⌝ }
 {
     let counts = usable_counts(ranks, full);
     global_log(m, ranks, counts, out)

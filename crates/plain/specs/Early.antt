@@ -10,7 +10,7 @@ use Rattle.frames.specs.declared.frame.Framed.{Framed}
 use Rattle.refusals.specs.Refusals.{refusalNumber, refusalPlace}
 use Rattle.sheets.specs.Sheet.{Sheet}
 
--- 1 and 2 stand before 3
+-- 1 and 2 stand before 3; a frame where no byte is left does not come here (`idleAnswer`)
 abbrev pub earlyFrame : ℕ → Framed → Answer
 earlyFrame at (Framed.Whole k start end) = refused 3 at
 earlyFrame at (Framed.Refused r) = refused (refusalNumber r) (refusalPlace r)
@@ -21,5 +21,6 @@ unfoldable pub earlyFront : Offer → Answer
 earlyFront (values lent b) = refused 3 0
 earlyFront (frame lent bytes at) = earlyFrame at (frameAt bytes at)
 
+-- 16 first, as on a complete sheet
 unfoldable pub earlyAnswer : Sheet → Offer → Answer
 earlyAnswer S o = idleAnswer o then lentAnswer (offerNeeds S) (lentOf o) then earlyFront o

@@ -117,7 +117,7 @@ alone = order 1 (blk 0 1 1 0 0 [] ∷ blk 0 2 2 1 0 [] ∷ blk 0 3 7 2 0 [] ∷ 
 abbrev pub silent : Row
 silent = order 2 (blk 0 1 1 0 0 [] ∷ []) (yes 1) 0 []
 
--- ---- one instance, a payment of 5 from account 0, which starts with n: "free 5 pays a debit of 5; free 4 fails it"
+-- ---- one instance, a payment of 5 from account 0, which starts with n: "free 5 pays a debit of 5", "free 4 fails it"
 
 abbrev pub pays : ℕ → Status → List ℕ → Row
 pays n s fs = row (sheetOf 1 0 (n ∷ 0 ∷ []) (pay (ent 0 5 ∷ []) (ent 1 5 ∷ []) ∷ [])) (blk 0 1 1 0 0 (0 ∷ []) ∷ []) (yes 1) (keyOf 2 0) (reads (refOf 0 0 ∷ []) (s ∷ []) fs (0 ∷ 0 ∷ []) [] 1000)

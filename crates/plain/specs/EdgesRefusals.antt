@@ -1,4 +1,4 @@
--- An offer for each refusal of document 01's table, in the order of the rules; each offer of the lists `turned`, `slipsTurned` and `earlyTurned` but the last meets all later refusals of its list too.
+-- An offer for each refusal of document 01's table, in the order of the rules; an offer of the lists `turned`, `slipsTurned` and `earlyTurned` meets the later refusals of its list too, as far as one that meets its own can.
 -- Then offers that meet a refusal by just one, or would give another place. proofs/EdgesRefusals shows the answers.
 -- Assumes nothing.
 use Prim.Native.Nat.{_%_, _+_, _/_, ℕ}

@@ -8,7 +8,7 @@ use Rattle.sums.specs.Seq.{Begins, tabulate}
 use Rattle.sheets.specs.Sheet.{Sheet}
 use Rattle.settlement.specs.View.{noCite}
 
--- an accepted block; its sequence number is its place in the log. The cut is sixteen counts
+-- an accepted block; its sequence number is its index in the log plus 1. The cut is sixteen counts
 pub record Block : Type 0 where
   pub rank : ℕ
   pub cut : List ℕ

@@ -44,7 +44,7 @@ abbrev pub parsedBody : List ℕ → ℕ → Checked → Parsed
 parsedBody b m Checked.Fine = block (valuesIn b m)
 parsedBody b m (Checked.Refused r) = wrong r
 
--- on a complete sheet blocks are due
+-- on a complete sheet blocks are due; a frame where no byte is left does not come here (`idleAnswer`)
 abbrev pub parsedFrame : ℕ → List ℕ → ℕ → Framed → Parsed
 parsedFrame m b at (Framed.Whole k start end) = pick (not (eqb k 4)) (wrong (KindNotDue at)) (parsedBody b m (checkBlock b at m))
 parsedFrame m b at (Framed.Refused r) = wrong r

@@ -83,6 +83,7 @@ unfoldable pub idleAnswer : Offer → Answer
 idleAnswer (values lent b) = accepted
 idleAnswer (frame lent bytes at) = pick (leb (length bytes) at) noOffer accepted
 
+-- "Order: 16; then for a slip 1 .. 7; for a block 8, 17, 9, .."
 unfoldable pub answer : Sheet → History → Offer → Answer
 answer S H o =
     idleAnswer o

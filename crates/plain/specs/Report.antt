@@ -21,6 +21,7 @@ use Rattle.settlement.specs.Settlement.{contracts}
 use Rattle.settlement.specs.Tables.{codeOf}
 use Rattle.settlement.specs.View.{Rows, View, viewLog}
 
+-- the global log, and for every number from 0 up settlements, free and held amounts and registers; the share
 pub record Report : Type 0 where
   pub log : List Ref
   pub settlements : List Status
@@ -46,6 +47,7 @@ reportOf S L = reportBy S (rowsAll S (historyOf L)) (fullView (historyOf L))
 
 -- ---- calls for it
 
+-- what is asked
 pub data Query : Type 0 where
   accounts : Query
   registers : Query
@@ -95,7 +97,7 @@ valueOf settlements r = 0
 valueOf share r = r .share
 valueOf log r = length (r .log)
 
--- "Places beyond what the call fills keep what they had"
+-- each list over the front of its buffer: "places from a on keep what they had", and so of the other lists
 unfoldable pub filledWith : List (List ℕ) → List (List ℕ) → List (List ℕ)
 filledWith [] outs = outs
 filledWith (l ∷ ls) [] = []

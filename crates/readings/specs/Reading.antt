@@ -1,4 +1,4 @@
--- What a call for a reading promises, whatever the ledger and the buffers are.
+-- What a call for a reading promises, whatever the ledger and the buffers are (document 01, "One reading, whole", and "A call for accounts, registers, settlements, share or the log").
 -- Assumes nothing.
 use Prim.Native.Nat.{_*_, ℕ}
 use lib.ListN.{length}

@@ -33,7 +33,10 @@ fn fill_accounts(
     held: &mut [u64],
 )
     requires { ⌜ (z .a ≤ length (now free)) × (z .a ≤ length (now held)) ⌝ }
-    ensures { λ _. ⌜ (now (free .exit) ≡ written (now (free .entry)) 0 (z .a) (freeIn (now (sheet .entry)) z (now (cites .entry)) (now (good .entry)) view (now (table .entry)))) × (now (held .exit) ≡ written (now (held .entry)) 0 (z .a) (heldIn (now (sheet .entry)) z (now (cites .entry)) (now (good .entry)) view (now (table .entry)))) ⌝ }
+    ensures { λ _. ⌜ (now (free .exit)
+        ≡ written (now (free .entry)) 0 (z .a) (freeIn (now (sheet .entry)) z (now (cites .entry)) (now (good .entry)) view (now (table .entry))))
+        × (now (held .exit)
+        ≡ written (now (held .entry)) 0 (z .a) (heldIn (now (sheet .entry)) z (now (cites .entry)) (now (good .entry)) view (now (table .entry)))) ⌝ }
 {
     let a = z.a;
     for k in 0..a {
@@ -56,7 +59,15 @@ pub fn accounts(
     free: &mut [u64],
     held: &mut [u64],
 ) -> Checked
-    ensures { λ r. ⌜ Reads ledger (kept (now (sheet .entry)) (now (ranks .entry)) [] (now (cites .entry)) (now (good .entry))) (buffers (now (counts .entry)) (now (table .entry)) (now (order .entry))) report.accounts (now (free .entry) ∷ now (held .entry) ∷ []) (replyTo r) 0 (buffers (now (counts .exit)) (now (table .exit)) (now (order .exit))) (now (free .exit) ∷ now (held .exit) ∷ []) ⌝ }
+    ensures { λ r. ⌜ Reads ledger
+        (kept (now (sheet .entry)) (now (ranks .entry)) [] (now (cites .entry)) (now (good .entry)))
+        (buffers (now (counts .entry)) (now (table .entry)) (now (order .entry)))
+        report.accounts
+        (now (free .entry) ∷ now (held .entry) ∷ [])
+        (replyTo r)
+        0
+        (buffers (now (counts .exit)) (now (table .exit)) (now (order .exit)))
+        (now (free .exit) ∷ now (held .exit) ∷ []) ⌝ }
 {
     let z = sizes(ledger);
     let a = z.a as usize;

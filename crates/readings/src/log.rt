@@ -20,7 +20,8 @@ ghost use Rattle.sums.specs.Seq.{written};
 // Writes the first n blocks of an order, each as its instance and its sequence number.
 fn fill_log(order: &[u16], n: usize, instances: &mut [u16], numbers: &mut [u16])
     requires { ⌜ (n ≤ length (now order)) × (n ≤ length (now instances)) × (n ≤ length (now numbers)) ⌝ }
-    ensures { λ _. ⌜ (now (instances .exit) ≡ written (now (instances .entry)) 0 n (λ k. refIn (getD (now (order .entry)) k 0) .instance)) × (now (numbers .exit) ≡ written (now (numbers .entry)) 0 n (λ k. refIn (getD (now (order .entry)) k 0) .index + 1)) ⌝ }
+    ensures { λ _. ⌜ (now (instances .exit) ≡ written (now (instances .entry)) 0 n (λ k. refIn (getD (now (order .entry)) k 0) .instance))
+        × (now (numbers .exit) ≡ written (now (numbers .entry)) 0 n (λ k. refIn (getD (now (order .entry)) k 0) .index + 1)) ⌝ }
 {
     for k in 0..n {
         let block = order[k];
@@ -32,7 +33,15 @@ fn fill_log(order: &[u16], n: usize, instances: &mut [u16], numbers: &mut [u16])
 // Fills `instances` and `numbers` in log order, and tells how many blocks the log has.
 // 16 instances of 128 blocks are the most that a sheet allows: the log is written aside first, since its length decides about refusal 16.
 pub fn log(ledger: Ledger, ranks: &[u32], instances: &mut [u16], numbers: &mut [u16]) -> Told
-    ensures { λ r. ⌜ Reads ledger (kept [] (now (ranks .entry)) [] [] []) (buffers [] [] []) report.log (now (instances .entry) ∷ now (numbers .entry) ∷ []) (replyTo (r .answer)) (r .value) (buffers [] [] []) (now (instances .exit) ∷ now (numbers .exit) ∷ []) ⌝ }
+    ensures { λ r. ⌜ Reads ledger
+        (kept [] (now (ranks .entry)) [] [] [])
+        (buffers [] [] [])
+        report.log
+        (now (instances .entry) ∷ now (numbers .entry) ∷ [])
+        (replyTo (r .answer))
+        (r .value)
+        (buffers [] [] [])
+        (now (instances .exit) ∷ now (numbers .exit) ∷ []) ⌝ }
 {
     let loading = ledger.loading;
     let heights = ledger.heights;

@@ -39,7 +39,15 @@ pub fn registers(
     order: &mut [u16],
     registers: &mut [u32],
 ) -> Checked
-    ensures { λ r. ⌜ Reads ledger (kept (now (sheet .entry)) (now (ranks .entry)) [] (now (cites .entry)) (now (good .entry))) (buffers (now (counts .entry)) (now (table .entry)) (now (order .entry))) report.registers (now (registers .entry) ∷ []) (replyTo r) 0 (buffers (now (counts .exit)) (now (table .exit)) (now (order .exit))) (now (registers .exit) ∷ []) ⌝ }
+    ensures { λ r. ⌜ Reads ledger
+        (kept (now (sheet .entry)) (now (ranks .entry)) [] (now (cites .entry)) (now (good .entry)))
+        (buffers (now (counts .entry)) (now (table .entry)) (now (order .entry)))
+        report.registers
+        (now (registers .entry) ∷ [])
+        (replyTo r)
+        0
+        (buffers (now (counts .exit)) (now (table .exit)) (now (order .exit)))
+        (now (registers .exit) ∷ []) ⌝ }
 {
     let z = sizes(ledger);
     let lent = check_buffers(ledger, sheet, ranks, cites, good, counts, table, order);

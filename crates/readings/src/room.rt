@@ -54,7 +54,10 @@ pub fn check_buffers(
     table: &[u8],
     order: &[u16],
 ) -> Checked
-    ensures { λ r. ⌜ replyTo r ≡ settlingAnswer ledger (kept (now (sheet .entry)) (now (ranks .entry)) [] (now (cites .entry)) (now (good .entry))) (buffers (now (counts .entry)) (now (table .entry)) (now (order .entry))) ⌝ }
+    ensures { λ r. ⌜ replyTo r
+        ≡ settlingAnswer ledger
+        (kept (now (sheet .entry)) (now (ranks .entry)) [] (now (cites .entry)) (now (good .entry)))
+        (buffers (now (counts .entry)) (now (table .entry)) (now (order .entry))) ⌝ }
 {
     if !is_complete(ledger) {
         return Checked::Refused(Refusal::KindNotDue(0));

@@ -22,7 +22,11 @@ pub fn settle_full(
     order: &mut [u16],
 ) -> [u32; 64]
     requires { ⌜ settlingAnswer ledger (kept (now sheet) (now ranks) [] (now cites) (now good)) (buffers (now counts) (now table) (now order)) ≡ accepted ⌝ }
-    ensures { λ r. ⌜ SettlesFull ledger (kept (now (sheet .entry)) (now (ranks .entry)) [] (now (cites .entry)) (now (good .entry))) (buffers (now (counts .entry)) (now (table .entry)) (now (order .entry))) r (buffers (now (counts .exit)) (now (table .exit)) (now (order .exit))) ⌝ }
+    ensures { λ r. ⌜ SettlesFull ledger
+        (kept (now (sheet .entry)) (now (ranks .entry)) [] (now (cites .entry)) (now (good .entry)))
+        (buffers (now (counts .entry)) (now (table .entry)) (now (order .entry)))
+        r
+        (buffers (now (counts .exit)) (now (table .exit)) (now (order .exit))) ⌝ }
 {
     let z = sizes(ledger);
     let view = full_view(ledger, ranks);

@@ -40,7 +40,15 @@ pub fn settlements(
     order: &mut [u16],
     statuses: &mut [u8],
 ) -> Checked
-    ensures { λ r. ⌜ Reads ledger (kept (now (sheet .entry)) (now (ranks .entry)) [] (now (cites .entry)) (now (good .entry))) (buffers (now (counts .entry)) (now (table .entry)) (now (order .entry))) report.settlements (now (statuses .entry) ∷ []) (replyTo r) 0 (buffers (now (counts .exit)) (now (table .exit)) (now (order .exit))) (now (statuses .exit) ∷ []) ⌝ }
+    ensures { λ r. ⌜ Reads ledger
+        (kept (now (sheet .entry)) (now (ranks .entry)) [] (now (cites .entry)) (now (good .entry)))
+        (buffers (now (counts .entry)) (now (table .entry)) (now (order .entry)))
+        report.settlements
+        (now (statuses .entry) ∷ [])
+        (replyTo r)
+        0
+        (buffers (now (counts .exit)) (now (table .exit)) (now (order .exit)))
+        (now (statuses .exit) ∷ []) ⌝ }
 {
     let z = sizes(ledger);
     let lent = check_buffers(ledger, sheet, ranks, cites, good, counts, table, order);

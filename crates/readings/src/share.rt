@@ -24,7 +24,14 @@ pub fn share(
     table: &mut [u8],
     order: &mut [u16],
 ) -> Told
-    ensures { λ r. ⌜ Reads ledger (kept (now (sheet .entry)) (now (ranks .entry)) [] (now (cites .entry)) (now (good .entry))) (buffers (now (counts .entry)) (now (table .entry)) (now (order .entry))) report.share [] (replyTo (r .answer)) (r .value) (buffers (now (counts .exit)) (now (table .exit)) (now (order .exit))) [] ⌝ }
+    ensures { λ r. ⌜ Reads ledger
+        (kept (now (sheet .entry)) (now (ranks .entry)) [] (now (cites .entry)) (now (good .entry)))
+        (buffers (now (counts .entry)) (now (table .entry)) (now (order .entry)))
+        report.share []
+        (replyTo (r .answer))
+        (r .value)
+        (buffers (now (counts .exit)) (now (table .exit)) (now (order .exit)))
+        [] ⌝ }
 {
     match check_buffers(ledger, sheet, ranks, cites, good, counts, table, order) {
         Checked::Refused(r) => Told {

@@ -30,7 +30,15 @@ pub fn records_of(
     free: &mut [u64],
     held: &mut [u64],
 ) -> [Account; 4]
-    ensures { λ r. ⌜ ((a : Answer) × ReadsRecords ledger (kept (now (sheet .entry)) (now (ranks .entry)) [] (now (cites .entry)) (now (good .entry))) (buffers (now (counts .entry)) (now (table .entry)) (now (order .entry))) (now (free .entry) ∷ now (held .entry) ∷ []) blanks a (buffers (now (counts .exit)) (now (table .exit)) (now (order .exit))) (now (free .exit) ∷ now (held .exit) ∷ []) r) ⌝ }
+    ensures { λ r. ⌜ ((a : Answer)
+        × ReadsRecords ledger
+        (kept (now (sheet .entry)) (now (ranks .entry)) [] (now (cites .entry)) (now (good .entry)))
+        (buffers (now (counts .entry)) (now (table .entry)) (now (order .entry)))
+        (now (free .entry) ∷ now (held .entry) ∷ [])
+        blanks a
+        (buffers (now (counts .exit)) (now (table .exit)) (now (order .exit)))
+        (now (free .exit) ∷ now (held .exit) ∷ [])
+        r) ⌝ }
 {
     let mut records = blank();
     account_records(

@@ -34,7 +34,7 @@ openStep rest at (Step.Took next end) = rest next end
 openStep rest at (Step.Refused r) = ended r
 openStep rest at Step.End = ended (Short at)
 
--- from an offset and the sheet so far, in at most so many frames
+-- from an offset and the sheet so far. A frame has 6 bytes or more, so that as many as the run has bytes, and one more, are never used up
 unfoldable pub openFrom : ℕ → List ℕ → ℕ → Loading → Sheet → Opened
 openFrom zero run at s S = ended (Short at)
 openFrom (suc fuel) run at s S =

@@ -41,7 +41,8 @@ endsOutput accepted = false
 endsOutput (refused n p) = leb n 7
 endsOutput noOffer = true
 
--- the lines of the blocks from an offset on, in at most so many frames, where L are the plain ledger's logs; where no byte is left, those of the report
+-- the lines of the blocks from an offset on, where L are the plain ledger's logs; where no byte is left, those of the report. A frame has 6 bytes or more, so that as many frames as
+-- the run has bytes, and one more, are never used up
 unfoldable pub blocksText : ℕ → Sheet → List ℕ → ℕ → Logs → List ℕ
 blocksText zero S run at L = []
 blocksText (suc fuel) S run at L =

@@ -33,8 +33,16 @@ pub fn put_blocks(
     out: &mut [u8],
     place: usize,
 ) -> Blocks
-    requires { ⌜ (complete ledger ≡ true) × Ample (kept (now sheet) (now ranks) (now cuts) (now cites) (now good)) (buffers (now counts) (now table) (now order)) ⌝ }
-    ensures { λ r. ⌜ PutsBlocks (now (run .entry)) at ledger (kept (now (sheet .entry)) (now (ranks .entry)) (now (cuts .entry)) (now (cites .entry)) (now (good .entry))) (now (out .entry)) place r (kept (now (sheet .entry)) (now (ranks .exit)) (now (cuts .exit)) (now (cites .exit)) (now (good .exit))) (now (out .exit)) ⌝ }
+    requires { ⌜ (complete ledger ≡ true)
+        × Ample (kept (now sheet) (now ranks) (now cuts) (now cites) (now good)) (buffers (now counts) (now table) (now order)) ⌝ }
+    ensures { λ r. ⌜ PutsBlocks
+        (now (run .entry))
+        at ledger
+        (kept (now (sheet .entry)) (now (ranks .entry)) (now (cuts .entry)) (now (cites .entry)) (now (good .entry)))
+        (now (out .entry))
+        place r
+        (kept (now (sheet .entry)) (now (ranks .exit)) (now (cuts .exit)) (now (cites .exit)) (now (good .exit)))
+        (now (out .exit)) ⌝ }
 {
     let mut state = ledger;
     let mut offset = at;

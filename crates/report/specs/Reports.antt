@@ -1,4 +1,4 @@
--- The call for the reading of a run as text (document 01, "One reading, whole").
+-- The call for the text that `readrun` prints of a run (document 01, "One reading, whole").
 -- Assumes nothing.
 use Prim.Native.Nat.{_≤_, ℕ}
 use lib.ListN.{drop, length}

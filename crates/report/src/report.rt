@@ -57,7 +57,16 @@ pub fn report_run(
     order: &mut [u16],
     out: &mut [u8],
 ) -> Reported
-    ensures { λ r. ⌜ Reports (now (run .entry)) (kept (now (sheet .entry)) (now (ranks .entry)) (now (cuts .entry)) (now (cites .entry)) (now (good .entry))) (buffers (now (counts .entry)) (now (table .entry)) (now (order .entry))) (now (out .entry)) (replyTo (r .answer)) (r .length) (kept (now (sheet .exit)) (now (ranks .exit)) (now (cuts .exit)) (now (cites .exit)) (now (good .exit))) (buffers (now (counts .exit)) (now (table .exit)) (now (order .exit))) (now (out .exit)) ⌝ }
+    ensures { λ r. ⌜ Reports
+        (now (run .entry))
+        (kept (now (sheet .entry)) (now (ranks .entry)) (now (cuts .entry)) (now (cites .entry)) (now (good .entry)))
+        (buffers (now (counts .entry)) (now (table .entry)) (now (order .entry)))
+        (now (out .entry))
+        (replyTo (r .answer))
+        (r .length)
+        (kept (now (sheet .exit)) (now (ranks .exit)) (now (cuts .exit)) (now (cites .exit)) (now (good .exit)))
+        (buffers (now (counts .exit)) (now (table .exit)) (now (order .exit)))
+        (now (out .exit)) ⌝ }
 {
     let lent = Lengths {
         sheet: sheet.len(),

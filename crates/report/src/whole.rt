@@ -34,8 +34,15 @@ fn put_opened(
     at: usize,
     out: &mut [u8],
 ) -> usize
-    requires { ⌜ (complete ledger ≡ true) × Ample (kept (now sheet) (now ranks) (now cuts) (now cites) (now good)) (buffers (now counts) (now table) (now order)) ⌝ }
-    ensures { λ r. ⌜ PutsOpened (now (run .entry)) at ledger (kept (now (sheet .entry)) (now (ranks .entry)) (now (cuts .entry)) (now (cites .entry)) (now (good .entry))) (now (out .entry)) (now (out .exit)) r ⌝ }
+    requires { ⌜ (complete ledger ≡ true)
+        × Ample (kept (now sheet) (now ranks) (now cuts) (now cites) (now good)) (buffers (now counts) (now table) (now order)) ⌝ }
+    ensures { λ r. ⌜ PutsOpened
+        (now (run .entry))
+        at ledger
+        (kept (now (sheet .entry)) (now (ranks .entry)) (now (cuts .entry)) (now (cites .entry)) (now (good .entry)))
+        (now (out .entry))
+        (now (out .exit))
+        r ⌝ }
 {
     let z = sizes(ledger);
     let start = put_run(out, 0, z.m, z.a, z.g, z.t);

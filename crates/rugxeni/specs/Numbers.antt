@@ -1,4 +1,4 @@
--- The ledger's own numbers in a caller's slice, and answers as numbers.
+-- The ledger's own numbers in a caller's slice, and answers as numbers. The layout is ours: document 01 has none.
 -- Assumes nothing.
 use Prim.Native.Nat.{_+_, min, ℕ}
 use lib.ListN.{getD}
@@ -46,7 +46,8 @@ loadPlace (Taken.Next end) = end
 loadPlace (Taken.Refused r) = refusalPlace r
 loadPlace Taken.Complete = 0
 
--- the number is returned; the place, and a value where there is one, go to the first two places of a lent slice, as far as it goes
+-- the number is returned; the place, and a value where there is one, go to the first two places of a lent slice, as far as it goes.
+-- That slice is the answer and no buffer that refusal 16 speaks of: who lends fewer than two places forgoes the rest
 pub record Said (number place value : ℕ) (code : ℕ) (told told' : List ℕ) : Type 0 where
   pub returned : code ≡ number
   pub written : told' ≡ fill (place ∷ value ∷ []) told

@@ -15,7 +15,16 @@ pub extern "C" fn rugxeni_load(
     sheet: &mut [u8],
     told: &mut [u64],
 ) -> u16
-    ensures { λ r. ⌜ LoadCall (now (numbers .entry)) (now (run .entry)) at (now (sheet .entry)) (now (told .entry)) r (now (numbers .exit)) (now (sheet .exit)) (now (told .exit)) ⌝ }
+    ensures { λ r. ⌜ LoadCall
+        (now (numbers .entry))
+        (now (run .entry))
+        at
+        (now (sheet .entry))
+        (now (told .entry))
+        r
+        (now (numbers .exit))
+        (now (sheet .exit))
+        (now (told .exit)) ⌝ }
 {
     if numbers.len() < 22 {
         return say_short(told);

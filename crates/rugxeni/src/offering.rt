@@ -43,7 +43,17 @@ pub extern "C" fn rugxeni_offer_frame(
     at: usize,
     told: &mut [u64],
 ) -> u16
-    ensures { λ r. ⌜ OfferCall (now (numbers .entry)) (kept (now (sheet .entry)) (now (ranks .entry)) (now (cuts .entry)) (now (cites .entry)) (now (good .entry))) (buffers (now (counts .entry)) (now (table .entry)) (now (order .entry))) (offered.frame (lengthsOf (kept (now (sheet .entry)) (now (ranks .entry)) (now (cuts .entry)) (now (cites .entry)) (now (good .entry))) (buffers (now (counts .entry)) (now (table .entry)) (now (order .entry)))) (now (bytes .entry)) at) (now (told .entry)) r (now (numbers .exit)) (kept (now (sheet .entry)) (now (ranks .exit)) (now (cuts .exit)) (now (cites .exit)) (now (good .exit))) (buffers (now (counts .exit)) (now (table .exit)) (now (order .exit))) (now (told .exit)) ⌝ }
+    ensures { λ r. ⌜ OfferCall
+        (now (numbers .entry))
+        (kept (now (sheet .entry)) (now (ranks .entry)) (now (cuts .entry)) (now (cites .entry)) (now (good .entry)))
+        (buffers (now (counts .entry)) (now (table .entry)) (now (order .entry)))
+        (offered.frame (lengthsOf (kept (now (sheet .entry)) (now (ranks .entry)) (now (cuts .entry)) (now (cites .entry)) (now (good .entry))) (buffers (now (counts .entry)) (now (table .entry)) (now (order .entry)))) (now (bytes .entry)) at)
+        (now (told .entry))
+        r
+        (now (numbers .exit))
+        (kept (now (sheet .entry)) (now (ranks .exit)) (now (cuts .exit)) (now (cites .exit)) (now (good .exit)))
+        (buffers (now (counts .exit)) (now (table .exit)) (now (order .exit)))
+        (now (told .exit)) ⌝ }
 {
     if numbers.len() < 22 {
         return say_short(told);
@@ -85,7 +95,19 @@ pub extern "C" fn rugxeni_offer_block(
     citations: &[u16],
     told: &mut [u64],
 ) -> u16
-    ensures { λ r. ⌜ OfferCall (now (numbers .entry)) (kept (now (sheet .entry)) (now (ranks .entry)) (now (cuts .entry)) (now (cites .entry)) (now (good .entry))) (buffers (now (counts .entry)) (now (table .entry)) (now (order .entry))) (offered.values (lengthsOf (kept (now (sheet .entry)) (now (ranks .entry)) (now (cuts .entry)) (now (cites .entry)) (now (good .entry))) (buffers (now (counts .entry)) (now (table .entry)) (now (order .entry)))) (valuesWith (blockWith instance sequence rank (now (cut .entry))) (now (citations .entry)))) (now (told .entry)) r (now (numbers .exit)) (kept (now (sheet .entry)) (now (ranks .exit)) (now (cuts .exit)) (now (cites .exit)) (now (good .exit))) (buffers (now (counts .exit)) (now (table .exit)) (now (order .exit))) (now (told .exit)) ⌝ }
+    ensures { λ r. ⌜ OfferCall
+        (now (numbers .entry))
+        (kept (now (sheet .entry)) (now (ranks .entry)) (now (cuts .entry)) (now (cites .entry)) (now (good .entry)))
+        (buffers (now (counts .entry)) (now (table .entry)) (now (order .entry)))
+        (offered.values
+        (lengthsOf (kept (now (sheet .entry)) (now (ranks .entry)) (now (cuts .entry)) (now (cites .entry)) (now (good .entry))) (buffers (now (counts .entry)) (now (table .entry)) (now (order .entry))))
+        (valuesWith (blockWith instance sequence rank (now (cut .entry))) (now (citations .entry))))
+        (now (told .entry))
+        r
+        (now (numbers .exit))
+        (kept (now (sheet .entry)) (now (ranks .exit)) (now (cuts .exit)) (now (cites .exit)) (now (good .exit)))
+        (buffers (now (counts .exit)) (now (table .exit)) (now (order .exit)))
+        (now (told .exit)) ⌝ }
 {
     if numbers.len() < 22 {
         return say_short(told);

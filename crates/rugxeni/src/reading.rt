@@ -28,7 +28,17 @@ pub extern "C" fn rugxeni_accounts(
     held: &mut [u64],
     told: &mut [u64],
 ) -> u16
-    ensures { λ r. ⌜ ReadCall (now (numbers .entry)) (kept (now (sheet .entry)) (now (ranks .entry)) [] (now (cites .entry)) (now (good .entry))) (buffers (now (counts .entry)) (now (table .entry)) (now (order .entry))) report.accounts (now (free .entry) ∷ now (held .entry) ∷ []) (now (told .entry)) r (buffers (now (counts .exit)) (now (table .exit)) (now (order .exit))) (now (free .exit) ∷ now (held .exit) ∷ []) (now (told .exit)) ⌝ }
+    ensures { λ r. ⌜ ReadCall
+        (now (numbers .entry))
+        (kept (now (sheet .entry)) (now (ranks .entry)) [] (now (cites .entry)) (now (good .entry)))
+        (buffers (now (counts .entry)) (now (table .entry)) (now (order .entry)))
+        report.accounts
+        (now (free .entry) ∷ now (held .entry) ∷ [])
+        (now (told .entry))
+        r
+        (buffers (now (counts .exit)) (now (table .exit)) (now (order .exit)))
+        (now (free .exit) ∷ now (held .exit) ∷ [])
+        (now (told .exit)) ⌝ }
 {
     if numbers.len() < 22 {
         return say_short(told);
@@ -62,7 +72,17 @@ pub extern "C" fn rugxeni_registers(
     values: &mut [u32],
     told: &mut [u64],
 ) -> u16
-    ensures { λ r. ⌜ ReadCall (now (numbers .entry)) (kept (now (sheet .entry)) (now (ranks .entry)) [] (now (cites .entry)) (now (good .entry))) (buffers (now (counts .entry)) (now (table .entry)) (now (order .entry))) report.registers (now (values .entry) ∷ []) (now (told .entry)) r (buffers (now (counts .exit)) (now (table .exit)) (now (order .exit))) (now (values .exit) ∷ []) (now (told .exit)) ⌝ }
+    ensures { λ r. ⌜ ReadCall
+        (now (numbers .entry))
+        (kept (now (sheet .entry)) (now (ranks .entry)) [] (now (cites .entry)) (now (good .entry)))
+        (buffers (now (counts .entry)) (now (table .entry)) (now (order .entry)))
+        report.registers
+        (now (values .entry) ∷ [])
+        (now (told .entry))
+        r
+        (buffers (now (counts .exit)) (now (table .exit)) (now (order .exit)))
+        (now (values .exit) ∷ [])
+        (now (told .exit)) ⌝ }
 {
     if numbers.len() < 22 {
         return say_short(told);
@@ -95,7 +115,17 @@ pub extern "C" fn rugxeni_settlements(
     statuses: &mut [u8],
     told: &mut [u64],
 ) -> u16
-    ensures { λ r. ⌜ ReadCall (now (numbers .entry)) (kept (now (sheet .entry)) (now (ranks .entry)) [] (now (cites .entry)) (now (good .entry))) (buffers (now (counts .entry)) (now (table .entry)) (now (order .entry))) report.settlements (now (statuses .entry) ∷ []) (now (told .entry)) r (buffers (now (counts .exit)) (now (table .exit)) (now (order .exit))) (now (statuses .exit) ∷ []) (now (told .exit)) ⌝ }
+    ensures { λ r. ⌜ ReadCall
+        (now (numbers .entry))
+        (kept (now (sheet .entry)) (now (ranks .entry)) [] (now (cites .entry)) (now (good .entry)))
+        (buffers (now (counts .entry)) (now (table .entry)) (now (order .entry)))
+        report.settlements
+        (now (statuses .entry) ∷ [])
+        (now (told .entry))
+        r
+        (buffers (now (counts .exit)) (now (table .exit)) (now (order .exit)))
+        (now (statuses .exit) ∷ [])
+        (now (told .exit)) ⌝ }
 {
     if numbers.len() < 22 {
         return say_short(told);
@@ -127,7 +157,16 @@ pub extern "C" fn rugxeni_share(
     order: &mut [u16],
     told: &mut [u64],
 ) -> u16
-    ensures { λ r. ⌜ ReadCall (now (numbers .entry)) (kept (now (sheet .entry)) (now (ranks .entry)) [] (now (cites .entry)) (now (good .entry))) (buffers (now (counts .entry)) (now (table .entry)) (now (order .entry))) report.share [] (now (told .entry)) r (buffers (now (counts .exit)) (now (table .exit)) (now (order .exit))) [] (now (told .exit)) ⌝ }
+    ensures { λ r. ⌜ ReadCall
+        (now (numbers .entry))
+        (kept (now (sheet .entry)) (now (ranks .entry)) [] (now (cites .entry)) (now (good .entry)))
+        (buffers (now (counts .entry)) (now (table .entry)) (now (order .entry)))
+        report.share []
+        (now (told .entry))
+        r
+        (buffers (now (counts .exit)) (now (table .exit)) (now (order .exit)))
+        []
+        (now (told .exit)) ⌝ }
 {
     if numbers.len() < 22 {
         return say_short(told);
@@ -155,7 +194,17 @@ pub extern "C" fn rugxeni_log(
     sequences: &mut [u16],
     told: &mut [u64],
 ) -> u16
-    ensures { λ r. ⌜ ReadCall (now (numbers .entry)) (kept [] (now (ranks .entry)) [] [] []) (buffers [] [] []) report.log (now (instances .entry) ∷ now (sequences .entry) ∷ []) (now (told .entry)) r (buffers [] [] []) (now (instances .exit) ∷ now (sequences .exit) ∷ []) (now (told .exit)) ⌝ }
+    ensures { λ r. ⌜ ReadCall
+        (now (numbers .entry))
+        (kept [] (now (ranks .entry)) [] [] [])
+        (buffers [] [] [])
+        report.log
+        (now (instances .entry) ∷ now (sequences .entry) ∷ [])
+        (now (told .entry))
+        r
+        (buffers [] [] [])
+        (now (instances .exit) ∷ now (sequences .exit) ∷ [])
+        (now (told .exit)) ⌝ }
 {
     if numbers.len() < 22 {
         return say_short(told);

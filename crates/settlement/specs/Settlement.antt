@@ -15,7 +15,7 @@ isCite x e = given (eqb (e .tx) x) 1
 unfoldable pub isFail : ℕ → Event → ℕ
 isFail x e = given (eqb (e .tx) x) (flip (e .good))
 
--- the parts of x in the view, and those that failed
+-- how many citations of x the view holds, and how many of them failed; on accepted logs each is another part
 unfoldable pub cited : Sheet → Rows → View → ℕ → ℕ
 cited S R v x = viewSum S R v (isCite x)
 

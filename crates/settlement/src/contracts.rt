@@ -32,7 +32,9 @@ fn settle_one(
     registers: [u32; 64],
 ) -> [u32; 64]
     requires { ⌜ (x < z .t) × (z .t ≤ length (now table)) ⌝ }
-    ensures { λ r. ⌜ ((c₀ t₀ : List ℕ) (s : Book) → Holds z c₀ t₀ s (now (counts .entry)) (now (table .entry)) registers → Holds z c₀ t₀ (settledIf (sheetIn (now (sheet .entry)) z) s x) (now (counts .entry)) (now (table .exit)) r) ⌝ }
+    ensures { λ r. ⌜ ((c₀ t₀ : List ℕ) (s : Book)
+        → Holds z c₀ t₀ s (now (counts .entry)) (now (table .entry)) registers
+        → Holds z c₀ t₀ (settledIf (sheetIn (now (sheet .entry)) z) s x) (now (counts .entry)) (now (table .exit)) r) ⌝ }
 {
     let at = x as usize;
     if count_of(counts, 2 * at) != parts_of(sheet, z, x) as u32 {
@@ -62,7 +64,9 @@ fn book(
     registers: [u32; 64],
 ) -> [u32; 64]
     requires { ⌜ (x < z .t) × (2 * z .t ≤ length (now counts)) × (z .t ≤ length (now table)) ⌝ }
-    ensures { λ r. ⌜ ((c₀ t₀ : List ℕ) (s : Book) → Holds z c₀ t₀ s (now (counts .entry)) (now (table .entry)) registers → Holds z c₀ t₀ (settledIf (sheetIn (now (sheet .entry)) z) (counted s (eventOf x good)) x) (now (counts .exit)) (now (table .exit)) r) ⌝ }
+    ensures { λ r. ⌜ ((c₀ t₀ : List ℕ) (s : Book)
+        → Holds z c₀ t₀ s (now (counts .entry)) (now (table .entry)) registers
+        → Holds z c₀ t₀ (settledIf (sheetIn (now (sheet .entry)) z) (counted s (eventOf x good)) x) (now (counts .exit)) (now (table .exit)) r) ⌝ }
 {
     count_one(counts, x, good);
     settle_one(sheet, z, x, counts, table, registers)
@@ -80,7 +84,13 @@ fn run_block(
     registers: [u32; 64],
 ) -> [u32; 64]
     requires { ⌜ (2 * z .t ≤ length (now counts)) × (z .t ≤ length (now table)) ⌝ }
-    ensures { λ r. ⌜ ((c₀ t₀ : List ℕ) (s : Book) → Holds z c₀ t₀ s (now (counts .entry)) (now (table .entry)) registers → Holds z c₀ t₀ (runAll (sheetIn (now (sheet .entry)) z) s (blockEvents (rowsIn [] (now (cites .entry)) (now (good .entry))) (refIn b))) (now (counts .exit)) (now (table .exit)) r) ⌝ }
+    ensures { λ r. ⌜ ((c₀ t₀ : List ℕ) (s : Book)
+        → Holds z c₀ t₀ s (now (counts .entry)) (now (table .entry)) registers
+        → Holds z c₀ t₀
+        (runAll (sheetIn (now (sheet .entry)) z) s (blockEvents (rowsIn [] (now (cites .entry)) (now (good .entry))) (refIn b)))
+        (now (counts .exit))
+        (now (table .exit))
+        r) ⌝ }
 {
     let j = b / 128;
     let from = b % 128 * 32;
@@ -110,7 +120,13 @@ fn run_log(
     registers: [u32; 64],
 ) -> [u32; 64]
     requires { ⌜ (2 * z .t ≤ length (now counts)) × (z .t ≤ length (now table)) × (n ≤ length (now order)) ⌝ }
-    ensures { λ r. ⌜ ((c₀ t₀ : List ℕ) (s : Book) → Holds z c₀ t₀ s (now (counts .entry)) (now (table .entry)) registers → Holds z c₀ t₀ (runAll (sheetIn (now (sheet .entry)) z) s (logEvents (rowsIn [] (now (cites .entry)) (now (good .entry))) (map refIn (take n (now (order .entry)))))) (now (counts .exit)) (now (table .exit)) r) ⌝ }
+    ensures { λ r. ⌜ ((c₀ t₀ : List ℕ) (s : Book)
+        → Holds z c₀ t₀ s (now (counts .entry)) (now (table .entry)) registers
+        → Holds z c₀ t₀
+        (runAll (sheetIn (now (sheet .entry)) z) s (logEvents (rowsIn [] (now (cites .entry)) (now (good .entry))) (map refIn (take n (now (order .entry))))))
+        (now (counts .exit))
+        (now (table .exit))
+        r) ⌝ }
 {
     let mut cells = registers;
     for i in 0..n {
@@ -154,8 +170,23 @@ pub fn settle_contracts(
     table: &mut [u8],
     order: &mut [u16],
 ) -> [u32; 64]
-    requires { ⌜ (Ordered (z .m) (rankIn (now ranks)) (wholeOf (countIn view))) × (2 * z .t ≤ length (now counts)) × (z .t ≤ length (now table)) × (128 * z .m ≤ length (now order)) × (z .m ≤ 16) × (z .g ≤ 64) ⌝ }
-    ensures { λ r. ⌜ (Holds z (now (counts .entry)) (now (table .entry)) (contracts (sheetIn (now (sheet .entry)) z) (rowsIn (now (ranks .entry)) (now (cites .entry)) (now (good .entry))) (countIn view)) (now (counts .exit)) (now (table .exit)) r) × (now (order .exit) ≡ fill (map blockId (viewLog (sheetIn (now (sheet .entry)) z) (rowsIn (now (ranks .entry)) (now (cites .entry)) (now (good .entry))) (countIn view))) (now (order .entry))) ⌝ }
+    requires { ⌜ (Ordered (z .m) (rankIn (now ranks)) (wholeOf (countIn view)))
+        × (2 * z .t ≤ length (now counts))
+        × (z .t ≤ length (now table))
+        × (128 * z .m ≤ length (now order))
+        × (z .m ≤ 16)
+        × (z .g ≤ 64) ⌝ }
+    ensures { λ r. ⌜ (Holds z
+        (now (counts .entry))
+        (now (table .entry))
+        (contracts (sheetIn (now (sheet .entry)) z) (rowsIn (now (ranks .entry)) (now (cites .entry)) (now (good .entry))) (countIn view))
+        (now (counts .exit))
+        (now (table .exit))
+        r)
+        × (now (order .exit)
+        ≡ fill
+        (map blockId (viewLog (sheetIn (now (sheet .entry)) z) (rowsIn (now (ranks .entry)) (now (cites .entry)) (now (good .entry))) (countIn view)))
+        (now (order .entry))) ⌝ }
 {
     clear(counts, z.t);
     pend_all(table, z.t);

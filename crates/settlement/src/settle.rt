@@ -77,8 +77,24 @@ pub fn settle(
     table: &mut [u8],
     order: &mut [u16],
 ) -> [u32; 64]
-    requires { ⌜ (Ordered (z .m) (rankIn (now ranks)) (wholeOf (countIn view))) × (2 * z .t ≤ length (now counts)) × (z .t ≤ length (now table)) × (128 * z .m ≤ length (now order)) × (z .m ≤ 16) × (z .g ≤ 64) ⌝ }
-    ensures { λ r. ⌜ (Settled z (sheetIn (now (sheet .entry)) z) (rowsIn (now (ranks .entry)) (now (cites .entry)) (now (good .entry))) (countIn view) (buffers (now (counts .entry)) (now (table .entry)) (now (order .entry))) (buffers (now (counts .exit)) (now (table .exit)) (now (order .exit)))) × (take (z .g) r ≡ contracts (sheetIn (now (sheet .entry)) z) (rowsIn (now (ranks .entry)) (now (cites .entry)) (now (good .entry))) (countIn view) .registers) ⌝ }
+    requires { ⌜ (Ordered (z .m) (rankIn (now ranks)) (wholeOf (countIn view)))
+        × (2 * z .t ≤ length (now counts))
+        × (z .t ≤ length (now table))
+        × (128 * z .m ≤ length (now order))
+        × (z .m ≤ 16)
+        × (z .g ≤ 64) ⌝ }
+    ensures { λ r. ⌜ (Settled z
+        (sheetIn (now (sheet .entry)) z)
+        (rowsIn (now (ranks .entry)) (now (cites .entry)) (now (good .entry)))
+        (countIn view)
+        (buffers (now (counts .entry)) (now (table .entry)) (now (order .entry)))
+        (buffers (now (counts .exit)) (now (table .exit)) (now (order .exit))))
+        × (take (z .g) r
+        ≡ contracts
+        (sheetIn (now (sheet .entry)) z)
+        (rowsIn (now (ranks .entry)) (now (cites .entry)) (now (good .entry)))
+        (countIn view)
+        .registers) ⌝ }
 {
     let registers = settle_contracts(sheet, ranks, cites, good, z, view, counts, table, order);
     clear(counts, z.t);

@@ -23,7 +23,7 @@ abbrev pub assigned : List ℕ → ℕ → ℕ → Done
 assigned r i n = record { passes = true; registers = set r i n }
 
 -- "0 passes if equal to the value, 1 passes if at least the value, 2 sets, 3 adds, 4 subtracts"; "a sum above 2^32 − 1 or a difference below 0 does not pass".
--- No sheet has another code; one passes nothing
+-- No sheet has another code; an operation with one does not pass
 unfoldable pub operate : Operation → List ℕ → Done
 operate op r =
     let n : ℕ = getD r (op .register) 0 in

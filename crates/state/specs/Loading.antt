@@ -1,4 +1,4 @@
--- What a call that loads a frame of the sheet promises.
+-- What a call that loads a frame of the sheet promises (document 01, "Slips", and refusals 1 to 7 and 16).
 -- Assumes nothing.
 use Prim.Native.Nat.{ℕ}
 use mathlib.Core.Bool.{false, true}

@@ -76,7 +76,12 @@ pub fn put_tail(
     registers: &[u32],
     share: u32,
 ) -> usize
-    ensures { λ r. ⌜ Wrote (now (out .entry)) at (listsText (take n (now (instances .entry))) (take n (now (numbers .entry))) (take t (now (statuses .entry))) (take a (now (free .entry))) (take a (now (held .entry))) (take g (now (registers .entry))) share) (now (out .exit)) r ⌝ }
+    ensures { λ r. ⌜ Wrote
+        (now (out .entry))
+        at
+        (listsText (take n (now (instances .entry))) (take n (now (numbers .entry))) (take t (now (statuses .entry))) (take a (now (free .entry))) (take a (now (held .entry))) (take g (now (registers .entry))) share)
+        (now (out .exit))
+        r ⌝ }
 {
     let logs = put_logs(out, at, n, instances, numbers);
     let txs = put_txs(out, logs, t as usize, statuses);

@@ -22,7 +22,7 @@ pub record Transaction : Type 0 where
   pub credits : List Entry
   pub operations : List Operation
 
--- what stands past the end of a list: total readers need something, and no rule looks at it
+-- what stands past the end of a list, so that readers are total. An empty citation place names 65535, past the end of every sheet: a payment with no debit and no credit, which reserves, counts and runs nothing
 abbrev pub noEntry : Entry
 noEntry = record { account = 0; amount = 0 }
 

@@ -85,8 +85,20 @@ fn put_body(
     registers: &[u8],
     values: &[u32],
 )
-    requires { ⌜ (4 + 6 * length (now payers) + 6 * length (now payees) + 6 * length (now codes) ≤ length (now out)) × Agree n (length (now payers)) (length (now debits)) (length (now payees)) (length (now credits)) (length (now codes)) (length (now registers)) (length (now values)) ⌝ }
-    ensures { λ _. ⌜ now (out .exit) ≡ sets (now (out .entry)) 0 (transactionBody (transactionWith (n .kind) (lists (now (payers .entry)) (now (debits .entry)) (now (payees .entry)) (now (credits .entry)) (now (codes .entry)) (now (registers .entry)) (now (values .entry))))) ⌝ }
+    requires { ⌜ (4 + 6 * length (now payers) + 6 * length (now payees) + 6 * length (now codes) ≤ length (now out))
+        × Agree n
+        (length (now payers))
+        (length (now debits))
+        (length (now payees))
+        (length (now credits))
+        (length (now codes))
+        (length (now registers))
+        (length (now values)) ⌝ }
+    ensures { λ _. ⌜ now (out .exit)
+        ≡ sets
+        (now (out .entry))
+        0
+        (transactionBody (transactionWith (n .kind) (lists (now (payers .entry)) (now (debits .entry)) (now (payees .entry)) (now (credits .entry)) (now (codes .entry)) (now (registers .entry)) (now (values .entry))))) ⌝ }
 {
     let second = 4 + 6 * payers.len();
     let third = second + 6 * payees.len();
@@ -115,8 +127,18 @@ fn transaction_body(
     registers: &[u8],
     values: &[u32],
 ) -> [u8; 4594]
-    requires { ⌜ (4 + 6 * length (now payers) + 6 * length (now payees) + 6 * length (now codes) ≤ 4594) × Agree n (length (now payers)) (length (now debits)) (length (now payees)) (length (now credits)) (length (now codes)) (length (now registers)) (length (now values)) ⌝ }
-    ensures { λ r. ⌜ take (4 + 6 * length (now (payers .entry)) + 6 * length (now (payees .entry)) + 6 * length (now (codes .entry))) r ≡ transactionBody (transactionWith (n .kind) (lists (now (payers .entry)) (now (debits .entry)) (now (payees .entry)) (now (credits .entry)) (now (codes .entry)) (now (registers .entry)) (now (values .entry)))) ⌝ }
+    requires { ⌜ (4 + 6 * length (now payers) + 6 * length (now payees) + 6 * length (now codes) ≤ 4594)
+        × Agree n
+        (length (now payers))
+        (length (now debits))
+        (length (now payees))
+        (length (now credits))
+        (length (now codes))
+        (length (now registers))
+        (length (now values)) ⌝ }
+    ensures { λ r. ⌜ take (4 + 6 * length (now (payers .entry)) + 6 * length (now (payees .entry)) + 6 * length (now (codes .entry))) r
+        ≡ transactionBody
+        (transactionWith (n .kind) (lists (now (payers .entry)) (now (debits .entry)) (now (payees .entry)) (now (credits .entry)) (now (codes .entry)) (now (registers .entry)) (now (values .entry)))) ⌝ }
 {
     let mut body = [0u8; 4594];
     put_body(
@@ -146,7 +168,14 @@ pub fn write_transaction(
     registers: &[u8],
     values: &[u32],
 ) -> Written
-    ensures { λ r. ⌜ Wrote (transactionVerdict s (listsAgree n (lists (now (payers .entry)) (now (debits .entry)) (now (payees .entry)) (now (credits .entry)) (now (codes .entry)) (now (registers .entry)) (now (values .entry)))) (transactionWith (n .kind) (lists (now (payers .entry)) (now (debits .entry)) (now (payees .entry)) (now (credits .entry)) (now (codes .entry)) (now (registers .entry)) (now (values .entry))))) (frameBytes 3 (transactionBody (transactionWith (n .kind) (lists (now (payers .entry)) (now (debits .entry)) (now (payees .entry)) (now (credits .entry)) (now (codes .entry)) (now (registers .entry)) (now (values .entry)))))) (now (out .entry)) (now (out .exit)) r ⌝ }
+    ensures { λ r. ⌜ Wrote
+        (transactionVerdict s
+        (listsAgree n (lists (now (payers .entry)) (now (debits .entry)) (now (payees .entry)) (now (credits .entry)) (now (codes .entry)) (now (registers .entry)) (now (values .entry))))
+        (transactionWith (n .kind) (lists (now (payers .entry)) (now (debits .entry)) (now (payees .entry)) (now (credits .entry)) (now (codes .entry)) (now (registers .entry)) (now (values .entry)))))
+        (frameBytes 3 (transactionBody (transactionWith (n .kind) (lists (now (payers .entry)) (now (debits .entry)) (now (payees .entry)) (now (credits .entry)) (now (codes .entry)) (now (registers .entry)) (now (values .entry))))))
+        (now (out .entry))
+        (now (out .exit))
+        r ⌝ }
 {
     if kind_due(s) != 3 {
         return Written::Refused(Refusal::KindNotDue(0));

@@ -27,8 +27,10 @@ pub(crate) fn put_operations(
     registers: &[u8],
     values: &[u32],
 )
-    requires { ⌜ (at + 6 * length (now codes) ≤ length (now out)) × ((length (now registers) ≡ length (now codes)) × (length (now values) ≡ length (now codes))) ⌝ }
-    ensures { λ _. ⌜ now (out .exit) ≡ sets (now (out .entry)) at (operationsBytes (operationsWith (now (codes .entry)) (now (registers .entry)) (now (values .entry)))) ⌝ }
+    requires { ⌜ (at + 6 * length (now codes) ≤ length (now out))
+        × ((length (now registers) ≡ length (now codes)) × (length (now values) ≡ length (now codes))) ⌝ }
+    ensures { λ _. ⌜ now (out .exit)
+        ≡ sets (now (out .entry)) at (operationsBytes (operationsWith (now (codes .entry)) (now (registers .entry)) (now (values .entry)))) ⌝ }
 {
     for k in 0..codes.len() {
         put_byte(out, at + 6 * k, codes[k]);

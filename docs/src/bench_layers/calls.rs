@@ -32,7 +32,7 @@ extern "C" {
         table_len: usize,
         order: *mut u16,
         order_len: usize,
-        which: u8,
+        which: u16,
     ) -> u64;
 }
 
@@ -65,7 +65,7 @@ impl Buffers {
         }
     }
 
-    pub fn settle(&mut self, case: &Case, places: usize, which: u8) -> u64 {
+    pub fn settle(&mut self, case: &Case, places: usize, which: u16) -> u64 {
         unsafe {
             bench_settle(
                 case.sheet.as_ptr(),

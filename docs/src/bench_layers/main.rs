@@ -26,7 +26,7 @@ fn same(case: &Case, places: usize) {
     );
     let (status, registers) = case.settlement(places);
     for which in 0..case.g {
-        let r = buffers.settle(case, places, which as u8);
+        let r = buffers.settle(case, places, which as u16);
         assert_eq!(
             r,
             (1 << 32) + registers[which] as u64,
