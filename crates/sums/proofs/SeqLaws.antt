@@ -30,6 +30,11 @@ getD-tabulate (suc n) f k d l = go (λ h. getD-tabulate n f k d h) (decLt k n)
     go ih (yes h) = List·getD-append (tabulate n f) _ d k (rw (length-tabulate n f) h) ∙ ih h
     go ih (no h) = let s : k ≡ n = omega arith in rw s (getD-at (tabulate n f) (f n) [] d n (length-tabulate n f))
 
+-- what a sum or a test makes of each element of a table, it makes of the function that made the table; `same` says that it looks at no others
+pub tabulate-each : {A B C : Type 0} (none : A) (n : ℕ) (f : ℕ → A) (sum : ℕ → (ℕ → B) → C) (same : (n : ℕ) (g h : ℕ → B) → ((i : ℕ) → i < n → g i ≡ h i) → sum n g ≡ sum n h) (p : A → B)
+    → sum (length (tabulate n f)) (λ k. p (getD (tabulate n f) k none)) ≡ sum n (λ k. p (f k))
+tabulate-each none n f sum same p = rw length-tabulate (same n _ _ (λ k l. ap p (getD-tabulate n f k none l)))
+
 pub all-append : {A : Type 0} (P : A → Type 0) (l l' : List A) → All P l → All P l' → All P (l ++ l')
 all-append P [] l' h k = k
 all-append P (x ∷ l) l' h k = (h .0, all-append P l l' (h .1) k)
