@@ -20,22 +20,18 @@ use Rattle.transactions.specs.Check.{accountsOnce, balanced, checkTransa
 use Rattle.transactions.specs.Content.{Transaction}
 use Rattle.refusals.specs.declared.Checked.the-variants.{Fine}
 
-entry-front : (b post : List ℕ) (from k : ℕ) → from + 6 * k + 6 ≤ length b → entryIn (drop from (b ++ post)) k ≡ entryIn (drop from b) k
-entry-front b post from k h =
-    let one : le 2 (drop from (b ++ post)) (6 * k) ≡ le 2 (drop from b) (6 * k) =
-    le-drop 2 (b ++ post) from (6 * k) ∙ le-front 2 b post (from + 6 * k) (omega arith) ∙ sym (le-drop 2 b from (6 * k)) in
-    let two : le 4 (drop from (b ++ post)) (6 * k + 2) ≡ le 4 (drop from b) (6 * k + 2) =
-    le-drop 4 (b ++ post) from (6 * k + 2) ∙ le-front 4 b post (from + (6 * k + 2)) (omega arith) ∙ sym (le-drop 4 b from (6 * k + 2)) in
-    rw (one, two) refl
+number-front : (w : ℕ) (b post : List ℕ) (from i : ℕ) → from + i + w ≤ length b → le w (drop from (b ++ post)) i ≡ le w (drop from b) i
+number-front w b post from i h = le-drop w (b ++ post) from i ∙ le-front w b post (from + i) h ∙ sym (le-drop w b from i)
 
 byte-front : (b post : List ℕ) (from i : ℕ) → from + i < length b → getD (drop from (b ++ post)) i 0 ≡ getD (drop from b) i 0
 byte-front b post from i h = getD-drop from (b ++ post) i 0 ∙ List·getD-append b post 0 (from + i) h ∙ sym (getD-drop from b i 0)
 
+entry-front : (b post : List ℕ) (from k : ℕ) → from + 6 * k + 6 ≤ length b → entryIn (drop from (b ++ post)) k ≡ entryIn (drop from b) k
+entry-front b post from k h = rw (number-front 2 b post from (6 * k) (omega arith), number-front 4 b post from (6 * k + 2) (omega arith)) refl
+
 operation-front : (b post : List ℕ) (from k : ℕ) → from + 6 * k + 6 ≤ length b → operationIn (drop from (b ++ post)) k ≡ operationIn (drop from b) k
 operation-front b post from k h =
-    let value : le 4 (drop from (b ++ post)) (6 * k + 2) ≡ le 4 (drop from b) (6 * k + 2) =
-    le-drop 4 (b ++ post) from (6 * k + 2) ∙ le-front 4 b post (from + (6 * k + 2)) (omega arith) ∙ sym (le-drop 4 b from (6 * k + 2)) in
-    rw (byte-front b post from (6 * k) (omega arith), byte-front b post from (6 * k + 1) (omega arith), value) refl
+    rw (byte-front b post from (6 * k) (omega arith), byte-front b post from (6 * k + 1) (omega arith), number-front 4 b post from (6 * k + 2) (omega arith)) refl
 
 -- what a transaction's body says does not hang on the bytes after it
 abbrev says : ℕ → ℕ → ℕ → ℕ → List ℕ → Transaction

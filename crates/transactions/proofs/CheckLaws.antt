@@ -6,39 +6,24 @@ use lib.Dec.{eqb}
 use lib.ListN.{drop, getD, length}
 use mathlib.Core.Bool.{false, not, true}
 use mathlib.Core.List.{List}
-use mathlib.Core.Path.{_∙_, _≡_, ap, refl}
+use mathlib.Core.Path.{_∙_, _≡_, ap, ap₂, refl}
 use native.Mathlib.Omega.{arith}
-use Rattle.sums.proofs.SeqLaws.{getD-tabulate, length-tabulate}
+use Rattle.sums.proofs.SeqLaws.{length-tabulate, tabulate-each}
 use Rattle.sums.proofs.SumLaws.{sum-ext}
 use Rattle.sums.proofs.TestLaws.{allTo-ext, passed, took}
-use Rattle.sums.specs.Seq.{tabulate}
-use Rattle.sums.specs.Test.{both}
+use Rattle.sums.specs.Test.{allTo, both}
 use Rattle.transactions.specs.Body.{creditsFrom, endDue, entryIn, operationIn, operationsFrom, transactionOf}
-use Rattle.transactions.specs.Check.{accountsOnce, amounts, balanced, checkTransaction, countsOk, distinct, entriesOk, entryOk, inRange, judgeTransaction, newAt, operationOk, operationsOk}
-use Rattle.transactions.specs.Content.{Entry, Operation, entryOf, noEntry, noOperation, operationOf}
+use Rattle.transactions.specs.Check.{accountsOnce, amounts, balanced, checkTransaction, countsOk, distinct, entriesOk, entryOk, inRange, judgeTransaction, operationOk, operationsOk}
+use Rattle.transactions.specs.Content.{Entry, entryOf, noEntry, noOperation}
 use Rattle.refusals.specs.declared.Checked.the-variants.{Fine, Refused}
 use Rattle.refusals.specs.declared.Refusal.the-variants.{AccountTwice, BodyLength, OutOfRange, SumsDiffer}
 
--- a tabulate's elements serve as the function that made it
-module _ (n : ℕ) (e : ℕ → Entry) where
-  entries-same : (a : ℕ) → entriesOk a (length (tabulate n e)) (entryOf (tabulate n e)) ≡ entriesOk a n e
-  entries-same a =
-      rw length-tabulate (allTo-ext n (λ k. entryOk a (entryOf (tabulate n e) k)) (λ k. entryOk a (e k)) (λ k h. ap (entryOk a) (getD-tabulate n e k noEntry h)))
+pub distinct-ext : (n : ℕ) (e f : ℕ → Entry) → ((k : ℕ) → k < n → e k ≡ f k) → distinct n e ≡ distinct n f
+distinct-ext n e f h =
+    allTo-ext n _ _ (λ k l. allTo-ext k _ _ (λ j u. ap₂ (λ (x y : Entry). not (eqb (x .account) (y .account))) (h j (omega arith)) (h k l)))
 
-  new-same : (k : ℕ) → k < n → newAt (entryOf (tabulate n e)) k ≡ newAt e k
-  new-same k h =
-      allTo-ext k (λ j. not (eqb (entryOf (tabulate n e) j .account) (entryOf (tabulate n e) k .account))) (λ j. not (eqb (e j .account) (e k .account)))
-      (λ j l. rw (getD-tabulate n e j noEntry (omega arith), getD-tabulate n e k noEntry h) refl)
-
-  distinct-same : distinct (length (tabulate n e)) (entryOf (tabulate n e)) ≡ distinct n e
-  distinct-same = rw length-tabulate (allTo-ext n (newAt (entryOf (tabulate n e))) (newAt e) new-same)
-
-  amounts-same : amounts (length (tabulate n e)) (entryOf (tabulate n e)) ≡ amounts n e
-  amounts-same = rw length-tabulate (sum-ext n (λ k. entryOf (tabulate n e) k .amount) (λ k. e k .amount) (λ k h. ap (λ (x : Entry). x .amount) (getD-tabulate n e k noEntry h)))
-
-operations-same : (n : ℕ) (o : ℕ → Operation) (g : ℕ) → operationsOk g (length (tabulate n o)) (operationOf (tabulate n o)) ≡ operationsOk g n o
-operations-same n o g =
-    rw length-tabulate (allTo-ext n (λ k. operationOk g (operationOf (tabulate n o) k)) (λ k. operationOk g (o k)) (λ k h. ap (operationOk g) (getD-tabulate n o k noOperation h)))
+pub amounts-ext : (n : ℕ) (e f : ℕ → Entry) → ((k : ℕ) → k < n → e k ≡ f k) → amounts n e ≡ amounts n f
+amounts-ext n e f h = sum-ext n _ _ (λ k l. ap (λ (x : Entry). x .amount) (h k l))
 
 -- the tests in the terms of the code, which reads counts and elements and makes no list
 module _ (b : List ℕ) where
@@ -50,22 +35,21 @@ module _ (b : List ℕ) where
   unfolding inRange transactionOf
   range-same a g =
       rw (
-        entries-same (getD b 1 0) (entryIn (drop 4 b)) a,
-        entries-same (getD b 2 0) (entryIn (drop (creditsFrom b) b)) a,
-        operations-same (getD b 3 0) (operationIn (drop (operationsFrom b) b)) g,
+        tabulate-each noEntry (getD b 1 0) (entryIn (drop 4 b)) allTo allTo-ext (entryOk a),
+        tabulate-each noEntry (getD b 2 0) (entryIn (drop (creditsFrom b) b)) allTo allTo-ext (entryOk a),
+        tabulate-each noOperation (getD b 3 0) (operationIn (drop (operationsFrom b) b)) allTo allTo-ext (operationOk g),
         length-tabulate (getD b 1 0) (entryIn (drop 4 b)),
         length-tabulate (getD b 2 0) (entryIn (drop (creditsFrom b) b)),
         length-tabulate (getD b 3 0) (operationIn (drop (operationsFrom b) b)),
       )
       refl
 
-  pub once-same : accountsOnce (transactionOf b) ≡ both (distinct (getD b 1 0) (entryIn (drop 4 b))) (distinct (getD b 2 0) (entryIn (drop (creditsFrom b) b)))
-  unfolding accountsOnce transactionOf
-  once-same = rw (distinct-same (getD b 1 0) (entryIn (drop 4 b)), distinct-same (getD b 2 0) (entryIn (drop (creditsFrom b) b))) refl
-
-  pub balanced-same : balanced (transactionOf b) ≡ eqb (amounts (getD b 1 0) (entryIn (drop 4 b))) (amounts (getD b 2 0) (entryIn (drop (creditsFrom b) b)))
-  unfolding balanced transactionOf
-  balanced-same = rw (amounts-same (getD b 1 0) (entryIn (drop 4 b)), amounts-same (getD b 2 0) (entryIn (drop (creditsFrom b) b))) refl
+  -- what is found of the debits, tested against what is found of the credits: refusals 6 and 7
+  pub sides-same : {A B : Type 0} (test : A → A → B) (find : ℕ → (ℕ → Entry) → A) → ((n : ℕ) (e f : ℕ → Entry) → ((k : ℕ) → k < n → e k ≡ f k) → find n e ≡ find n f)
+      → test (find (length (transactionOf b .debits)) (entryOf (transactionOf b .debits))) (find (length (transactionOf b .credits)) (entryOf (transactionOf b .credits)))
+      ≡ test (find (getD b 1 0) (entryIn (drop 4 b))) (find (getD b 2 0) (entryIn (drop (creditsFrom b) b)))
+  unfolding transactionOf
+  sides-same test find same = ap₂ test (tabulate-each noEntry _ (entryIn (drop 4 b)) find same (λ x. x)) (tabulate-each noEntry _ (entryIn (drop (creditsFrom b) b)) find same (λ x. x))
 
 -- which case of the check holds
 module _ (b : List ℕ) (at a g : ℕ) where
