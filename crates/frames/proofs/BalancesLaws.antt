@@ -10,17 +10,14 @@ use mathlib.Core.Path.{_≡_, ap, refl}
 use Rattle.fields.specs.Number.{le}
 use Rattle.frames.specs.Balances.{balancesOf, balancesOk, checkBalances}
 use Rattle.refusals.proofs.CheckedLaws.{held, tested}
-use Rattle.sums.proofs.SeqLaws.{getD-tabulate, length-tabulate}
+use Rattle.sums.proofs.SeqLaws.{length-tabulate, tabulate-each}
 use Rattle.sums.proofs.TestLaws.{allTo-ext, allTo-true, passed, took}
 use Rattle.sums.specs.Test.{allTo}
 use Rattle.refusals.specs.declared.Checked.the-variants.{Fine}
 
 pub fits-same : (a : ℕ) (b : List ℕ) → balancesOk (balancesOf a b) ≡ allTo a (λ k. leb (le 8 b (8 * k)) 1099511627776)
 unfolding balancesOk balancesOf
-fits-same a b =
-    rw length-tabulate
-    (allTo-ext a (λ k. leb (getD (balancesOf a b) k 0) 1099511627776) (λ k. leb (le 8 b (8 * k)) 1099511627776)
-    (λ k h. ap (λ (n : ℕ). leb n 1099511627776) (getD-tabulate a (λ i. le 8 b (8 * i)) k 0 h)))
+fits-same a b = tabulate-each 0 a (λ k. le 8 b (8 * k)) allTo allTo-ext (λ n. leb n 1099511627776)
 
 pub balances-fine : (b : List ℕ) (at a : ℕ) → length b ≡ 8 * a → balancesOk (balancesOf a b) ≡ true → checkBalances b at a ≡ Fine
 unfolding checkBalances

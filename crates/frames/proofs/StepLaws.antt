@@ -14,7 +14,7 @@ use Rattle.frames.specs.Frame.{bodyOf, frameAt}
 use Rattle.frames.specs.Header.{checkHeader, headerOk}
 use Rattle.frames.specs.Step.{afterCheck, afterFrame, headerLoaded, judged, kindDue, loadingAfter, stepAt}
 use Rattle.refusals.proofs.CheckedLaws.{refused-not-fine}
-use Rattle.sums.proofs.TestLaws.{passed, peel, took}
+use Rattle.sums.proofs.TestLaws.{first-taken, passed, peel, took}
 use Rattle.sums.specs.Test.{pick}
 use Rattle.transactions.specs.Check.{checkTransaction}
 use Rattle.frames.specs.declared.frame.Framed.{Framed}
@@ -122,18 +122,45 @@ module _ (run : List ℕ) (at : ℕ) (s : Loading) where
   pub step-early : frameAt run at ≡ Framed.End → (kindDue s ≡ 4 → ⊥) → stepAt run at s ≡ Step.Refused (Short at)
   step-early e n = by-frame e ∙ passed _ (ne-eqb _ _ n) refl
 
-pub due-header-ok : (s : Loading) (k : ℕ) → 2 ≤ k → kindDue s ≡ k → headerOk (s .m) (s .a) (s .g) (s .t) ≡ true
-unfolding kindDue
-due-header-ok s k h e =
-    let p = peel (eqb (s .stage) 0) (λ (q : 1 ≡ k). one q) e in
-    let q = peel (not (headerOk (s .m) (s .a) (s .g) (s .t))) (λ (q : 0 ≡ k). none q) (p .1) in
-    not-false (headerOk (s .m) (s .a) (s .g) (s .t)) (q .0)
-  where
-    one : 1 ≡ k → ⊥
-    one q = omega arith
+-- ---- what the kind due says of the sheet so far
 
-    none : 0 ≡ k → ⊥
-    none q = omega arith
+pub differ : (n k : ℕ) → (n < k) ⊎ (k < n) → n ≡ k → ⊥
+differ n k (inl h) e = omega arith
+differ n k (inr h) e = omega arith
+
+-- of a kind from 2 on: there is a header, and it is fine
+past-header : (s : Loading) (k : ℕ) → 2 ≤ k → kindDue s ≡ k
+    → (eqb (s .stage) 0 ≡ false) × (headerOk (s .m) (s .a) (s .g) (s .t) ≡ true) × (pick (eqb (s .stage) 1) 2 (pick (ltb (s .loaded) (s .t)) 3 (pick (eqb (s .loaded) (s .t)) 4 0)) ≡ k)
+unfolding kindDue
+past-header s k h e =
+    let p = peel (eqb (s .stage) 0) (differ 1 k (inl (omega arith))) e in
+    let q = peel (not (headerOk (s .m) (s .a) (s .g) (s .t))) (differ 0 k (inl (omega arith))) (p .1) in
+    (p .0, not-false _ (q .0), q .1)
+
+pub begun : (s : Loading) (k : ℕ) → 2 ≤ k → kindDue s ≡ k → eqb (s .stage) 0 ≡ false
+begun s k h e = past-header s k h e .0
+
+pub due-header-ok : (s : Loading) (k : ℕ) → 2 ≤ k → kindDue s ≡ k → headerOk (s .m) (s .a) (s .g) (s .t) ≡ true
+due-header-ok s k h e = past-header s k h e .1
+
+-- of a kind from 3 on: the balances are there
+past-balances : (s : Loading) (k : ℕ) → 3 ≤ k → kindDue s ≡ k → (eqb (s .stage) 1 ≡ false) × (pick (ltb (s .loaded) (s .t)) 3 (pick (eqb (s .loaded) (s .t)) 4 0) ≡ k)
+past-balances s k h e = peel (eqb (s .stage) 1) (differ 2 k (inl (omega arith))) (past-header s k (omega arith) e .2)
+
+pub due-late : (s : Loading) (k : ℕ) → 3 ≤ k → kindDue s ≡ k → 2 ≤ s .stage
+due-late s k h e = omega (arith, eqb-false (s .stage) 0 (begun s k (omega arith) e), eqb-false (s .stage) 1 (past-balances s k h e .0))
+
+-- a transaction is due while there are fewer than t, a block when there are t
+pub due-three : (s : Loading) → kindDue s ≡ 3 → s .loaded < s .t
+due-three s e = ltb-true (s .loaded) (s .t) (first-taken _ 3 four (past-balances s 3 (omega arith) e .1))
+  where
+    four : pick {A = ℕ} (eqb (s .loaded) (s .t)) 4 0 ≡ 3 → ⊥
+    four q = differ 0 3 (inl (omega arith)) (peel (eqb (s .loaded) (s .t)) (differ 4 3 (inr (omega arith))) q .1)
+
+pub due-four : (s : Loading) → kindDue s ≡ 4 → s .loaded ≡ s .t
+due-four s e =
+    let u = peel (ltb (s .loaded) (s .t)) (differ 3 4 (inl (omega arith))) (past-balances s 4 (omega arith) e .1) in
+    eqb-true (s .loaded) (s .t) (first-taken _ 4 (differ 0 4 (inl (omega arith))) (u .1))
 
 -- a frame that was taken was due and fine
 module _ (s : Loading) (run : List ℕ) (at : ℕ) (next : Loading) (end : ℕ) where
@@ -150,72 +177,23 @@ module _ (s : Loading) (run : List ℕ) (at : ℕ) (next : Loading) (end : ℕ) 
   end-no : Step.End ≡ Step.Took next end → ⊥
   end-no q = let z : _≡_ {A = ℕ} 0 1 = cc in omega arith
 
+  by-whole : (b : List ℕ) (k start e : ℕ) → afterFrame s at b (Framed.Whole k start e) ≡ Step.Took next end
+      → (k ≡ kindDue s) × (afterCheck (loadingAfter s k b) e (judged s k b at) ≡ Step.Took next end)
+  by-whole b k start e q = let p = peel (not (eqb k (kindDue s))) refused-no q in (eqb-true k (kindDue s) (not-false _ (p .0)), p .1)
+
   by-framed : (b : List ℕ) (f : Framed) → afterFrame s at b f ≡ Step.Took next end → (judged s (kindDue s) b at ≡ Checked.Fine) × (next ≡ loadingAfter s (kindDue s) b)
-  by-framed b (Framed.Whole k start e) q =
-      let p = peel (not (eqb k (kindDue s))) refused-no q in
-      let due = eqb-true k (kindDue s) (not-false (eqb k (kindDue s)) (p .0)) in
-      rw due at (by-check b k e (judged s k b at) (p .1))
+  by-framed b (Framed.Whole k start e) q = let (due, p) = by-whole b k start e q in rw due at (by-check b k e (judged s k b at) p)
   by-framed b (Framed.Refused r) q = absurd (refused-no q)
   by-framed b Framed.End q = absurd (refused-no (peel (eqb (kindDue s) 4) end-no q .1))
 
   -- of a frame, the kind due, ending where the step says
   pub took-due : {k start e : ℕ} → frameAt run at ≡ Framed.Whole k start e → stepAt run at s ≡ Step.Took next end → k ≡ kindDue s
-  took-due {k} {start} {e} f q =
-      let p = peel (not (eqb k (kindDue s))) refused-no (sym (by-frame run at s f) ∙ q) in
-      eqb-true k (kindDue s) (not-false (eqb k (kindDue s)) (p .0))
+  took-due {k} {start} {e} f q = by-whole (bodyOf (frameAt run at) run) k start e (sym (by-frame run at s f) ∙ q) .0
 
   pub took-judged : stepAt run at s ≡ Step.Took next end
       → (judged s (kindDue s) (bodyOf (frameAt run at) run) at ≡ Checked.Fine) × (next ≡ loadingAfter s (kindDue s) (bodyOf (frameAt run at) run))
   unfolding stepAt
   took-judged q = by-framed (bodyOf (frameAt run at) run) (frameAt run at) q
-
--- what the kind due says of the sheet so far
-pub differ : (n k : ℕ) → (n < k) ⊎ (k < n) → n ≡ k → ⊥
-differ n k (inl h) e = omega arith
-differ n k (inr h) e = omega arith
-
-pub begun : (s : Loading) (k : ℕ) → 2 ≤ k → kindDue s ≡ k → eqb (s .stage) 0 ≡ false
-unfolding kindDue
-begun s k h e = peel (eqb (s .stage) 0) (differ 1 k (inl (omega arith))) e .0
-
--- a transaction is due while there are fewer than t
-pub due-three : (s : Loading) → kindDue s ≡ 3 → s .loaded < s .t
-unfolding kindDue pick
-due-three s e =
-    let p = peel (eqb (s .stage) 0) (differ 1 3 (inl (omega arith))) e in
-    let q = peel (not (headerOk (s .m) (s .a) (s .g) (s .t))) (differ 0 3 (inl (omega arith))) (p .1) in
-    let r = peel (eqb (s .stage) 1) (differ 2 3 (inl (omega arith))) (q .1) in
-    ltb-true (s .loaded) (s .t) (last (ltb (s .loaded) (s .t)) (r .1))
-  where
-    four : pick {A = ℕ} (eqb (s .loaded) (s .t)) 4 0 ≡ 3 → ⊥
-    four q = differ 0 3 (inl (omega arith)) (peel (eqb (s .loaded) (s .t)) (differ 4 3 (inr (omega arith))) q .1)
-
-    last : (t : Bool) → pick {A = ℕ} t 3 (pick (eqb (s .loaded) (s .t)) 4 0) ≡ 3 → t ≡ true
-    last true q = refl
-    last false q = absurd (four q)
-
--- a block is due when there are t
-pub due-four : (s : Loading) → kindDue s ≡ 4 → s .loaded ≡ s .t
-unfolding kindDue pick
-due-four s e =
-    let p = peel (eqb (s .stage) 0) (differ 1 4 (inl (omega arith))) e in
-    let q = peel (not (headerOk (s .m) (s .a) (s .g) (s .t))) (differ 0 4 (inl (omega arith))) (p .1) in
-    let r = peel (eqb (s .stage) 1) (differ 2 4 (inl (omega arith))) (q .1) in
-    let u = peel (ltb (s .loaded) (s .t)) (differ 3 4 (inl (omega arith))) (r .1) in
-    eqb-true (s .loaded) (s .t) (last (eqb (s .loaded) (s .t)) (u .1))
-  where
-    last : (t : Bool) → pick {A = ℕ} t 4 0 ≡ 4 → t ≡ true
-    last true q = refl
-    last false q = absurd (differ 0 4 (inl (omega arith)) q)
-
--- and both after the balances
-pub due-late : (s : Loading) (k : ℕ) → 3 ≤ k → kindDue s ≡ k → 2 ≤ s .stage
-unfolding kindDue
-due-late s k h e =
-    let p = peel (eqb (s .stage) 0) (differ 1 k (inl (omega arith))) e in
-    let q = peel (not (headerOk (s .m) (s .a) (s .g) (s .t))) (differ 0 k (inl (omega arith))) (p .1) in
-    let r = peel (eqb (s .stage) 1) (differ 2 k (inl (omega arith))) (q .1) in
-    omega (arith, eqb-false (s .stage) 0 (p .0), eqb-false (s .stage) 1 (r .0))
 
 -- the sheet so far after a frame of each kind
 module _ (s : Loading) (kind : ℕ) (b : List ℕ) where
@@ -225,16 +203,16 @@ module _ (s : Loading) (kind : ℕ) (b : List ℕ) where
 
   pub after-balances : kind ≡ 2 → loadingAfter s kind b ≡ record { m = s .m; a = s .a; g = s .g; t = s .t; stage = 2; loaded = 0 }
   unfolding loadingAfter
-  after-balances h = passed _ (ne-eqb _ _ (λ w. differ 1 2 (inl (omega arith)) (sym w ∙ h))) (took _ (eq-eqb _ _ h) refl)
+  after-balances h = passed _ (ne-eqb _ _ (λ (w : kind ≡ 1). omega arith)) (took _ (eq-eqb _ _ h) refl)
 
   pub after-transaction : kind ≡ 3 → s .loaded < s .t → loadingAfter s kind b ≡ record { m = s .m; a = s .a; g = s .g; t = s .t; stage = 2; loaded = s .loaded + 1 }
   unfolding loadingAfter
   after-transaction h l =
-      passed _ (ne-eqb _ _ (λ w. differ 1 3 (inl (omega arith)) (sym w ∙ h)))
-      (passed _ (ne-eqb _ _ (λ w. differ 2 3 (inl (omega arith)) (sym w ∙ h))) (took _ (eq-eqb _ _ h) (took _ (lt-ltb _ _ l) refl)))
+      passed _ (ne-eqb _ _ (λ (w : kind ≡ 1). omega arith))
+      (passed _ (ne-eqb _ _ (λ (w : kind ≡ 2). omega arith)) (took _ (eq-eqb _ _ h) (took _ (lt-ltb _ _ l) refl)))
 
   pub after-block : kind ≡ 4 → loadingAfter s kind b ≡ s
   unfolding loadingAfter
   after-block h =
-      passed _ (ne-eqb _ _ (λ w. differ 1 4 (inl (omega arith)) (sym w ∙ h)))
-      (passed _ (ne-eqb _ _ (λ w. differ 2 4 (inl (omega arith)) (sym w ∙ h))) (passed _ (ne-eqb _ _ (λ w. differ 3 4 (inl (omega arith)) (sym w ∙ h))) refl))
+      passed _ (ne-eqb _ _ (λ (w : kind ≡ 1). omega arith))
+      (passed _ (ne-eqb _ _ (λ (w : kind ≡ 2). omega arith)) (passed _ (ne-eqb _ _ (λ (w : kind ≡ 3). omega arith)) refl))

@@ -3,9 +3,9 @@
 use Prim.Native.Nat.{ℕ}
 use borrow.Author.Tests.{not-false}
 use mathlib.Core.Bool.{Bool, false, not, true}
-use mathlib.Core.Path.{_≡_, refl}
+use mathlib.Core.Path.{_≡_}
 use native.Mathlib.Omega.{arith}
-use Rattle.sums.proofs.TestLaws.{peel}
+use Rattle.sums.proofs.TestLaws.{first-taken, peel}
 use Rattle.sums.specs.Test.{pick}
 use Rattle.refusals.specs.declared.Checked.{Checked}
 use Rattle.refusals.specs.declared.Checked.the-variants.{Fine, Refused}
@@ -24,6 +24,4 @@ held t r e = let p = peel (not t) refused-not-fine e in (not-false t (p .0), p .
 
 -- the last test passed
 pub tested : (t : Bool) (r : Refusal) → pick t Fine (Refused r) ≡ Fine → t ≡ true
-unfolding pick
-tested true r e = refl
-tested false r e = absurd (refused-not-fine e)
+tested t r e = first-taken t Fine refused-not-fine e
