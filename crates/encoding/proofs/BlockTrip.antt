@@ -1,6 +1,6 @@
 -- A block's body, written and read back; and read and written again.
 -- Assumes nothing.
-use Prim.Native.Nat.{_*_, _+_, _<_, _≤_, suc, zero, ℕ}
+use Prim.Native.Nat.{_*_, _+_, _<_, _≤_, ℕ}
 use borrow.Author.Tests.{eqb-true, lt-ltb, ltb-true}
 use lib.Dec.{eqb, ltb}
 use lib.ListN.{drop, getD, length, length-append, take}
@@ -10,19 +10,19 @@ use mathlib.Core.List.{List, [], _++_, append-assoc, append-nil}
 use mathlib.Core.Path.{_∙_, _≡_, ap, refl, sym}
 use native.Mathlib.Nat.{add-assoc}
 use native.Mathlib.Omega.{arith}
-use Rattle.encoding.proofs.Lengths.{length-block, length-numbers}
+use Rattle.encoding.proofs.Lengths.{length-block}
 use Rattle.encoding.specs.Body.{blockBody, cutBytes, cutOk, fixedBytes, numbersBytes, unusedZero}
 use Rattle.encoding.specs.Fits.{BlockFits}
 use Rattle.fields.proofs.NumberLaws.{join, le-of-bytes, le-step, length-leBytes, piece}
-use Rattle.fields.proofs.RowLaws.{numbers-back, numbers-forth}
+use Rattle.fields.proofs.RowLaws.{length-numbers, numbers-back, numbers-forth}
 use Rattle.fields.specs.Number.{AreBytes, le, leBytes}
 use Rattle.frames.proofs.BlockLaws.{block-fine}
 use Rattle.frames.specs.Block.{blockOf, checkBlock, citesOf, cutEntry, cutOf}
 use Rattle.ordering.proofs.Merge.{zeros}
 use Rattle.sums.proofs.SeqLaws.{getD-tabulate, length-tabulate, tabulate-ext, tabulate-is}
-use Rattle.sums.proofs.TestLaws.{allTo-true, took}
+use Rattle.sums.proofs.TestLaws.{allTo-each, allTo-true, took}
 use Rattle.sums.specs.Seq.{tabulate}
-use Rattle.sums.specs.Test.{allTo, pick}
+use Rattle.sums.specs.Test.{pick}
 use Rattle.frames.specs.declared.block.Block.{Block}
 use Rattle.refusals.specs.declared.Checked.the-variants.{Fine}
 
@@ -87,7 +87,7 @@ module _ (m : ℕ) (b : Block) (cites : List ℕ) (sized : BlockFits b cites) (f
   cite-back : (k : ℕ) → k < length cites → le 2 (blockBody m b cites) (10 + 2 * m + 2 * k) ≡ getD cites k 0
   unfolding blockBody
   cite-back k h =
-      let size : length (cutBytes m (b .cut)) ≡ 2 * m = length-numbers (tabulate m (λ i. getD (b .cut) i 0)) ∙ rw length-tabulate refl in
+      let size : length (cutBytes m (b .cut)) ≡ 2 * m = length-numbers 2 (tabulate m (λ i. getD (b .cut) i 0)) ∙ rw length-tabulate refl in
       rw (add-assoc 10 (2 * m) (2 * k))
       (le-step 2 (fixedBytes b (length cites)) (cutBytes m (b .cut) ++ numbersBytes cites) 10 (2 * m + 2 * k) fixed-long
       ∙ le-step 2 (cutBytes m (b .cut)) (numbersBytes cites) (2 * m) (2 * k) size
@@ -137,14 +137,9 @@ pub few-read : (b : List ℕ) (m : ℕ) → le 2 b 8 ≤ 32 → length (citesOf 
 unfolding citesOf
 few-read b m h = rw length-tabulate h
 
-all-pass : (n : ℕ) (f : ℕ → Bool) → ((k : ℕ) → k < n → f k ≡ true) → allTo n f ≡ true
-unfolding allTo
-all-pass zero f h = refl
-all-pass (suc n) f h = took _ (h n (omega arith)) (all-pass n f (λ k l. h k (omega arith)))
-
 pub cut-read : (b : List ℕ) (m : ℕ) → cutOk m (cutOf b m) ≡ true
 unfolding cutOk cutOf pick
-cut-read b m = all-pass 16 (λ j. unusedZero m j (getD (tabulate 16 (cutEntry b m)) j 0)) (λ j h. rw (getD-tabulate 16 (cutEntry b m) j 0 h) (one (ltb j m) (le 2 b (10 + 2 * j))))
+cut-read b m = allTo-each 16 (λ j. unusedZero m j (getD (tabulate 16 (cutEntry b m)) j 0)) (λ j h. rw (getD-tabulate 16 (cutEntry b m) j 0 h) (one (ltb j m) (le 2 b (10 + 2 * j))))
   where
     one : (t : Bool) (v : ℕ) → pick {A = Bool} t true (eqb (pick {A = ℕ} t v 0) 0) ≡ true
     one true v = refl

@@ -5,9 +5,9 @@ use lib.ListN.{length, length-append}
 use mathlib.Core.List.{List}
 use mathlib.Core.Path.{_≡_, ap, refl}
 use native.Mathlib.Omega.{arith}
-use Rattle.encoding.specs.Body.{balancesBody, blockBody, entriesBytes, entryBytes, frameBytes, headerBody, numbersBytes, operationBytes, operationsBytes, transactionBody}
+use Rattle.encoding.specs.Body.{balancesBody, blockBody, entryBytes, frameBytes, headerBody, operationBytes, transactionBody}
 use Rattle.fields.proofs.NumberLaws.{length-leBytes}
-use Rattle.fields.proofs.RowLaws.{length-list}
+use Rattle.fields.proofs.RowLaws.{length-list, length-numbers}
 use Rattle.fields.specs.Number.{leBytes}
 use Rattle.sums.proofs.SeqLaws.{length-tabulate}
 use Rattle.transactions.specs.Content.{Entry, Operation, Transaction, noEntry, noOperation}
@@ -22,22 +22,13 @@ pub operation-long : (o : Operation) → length (operationBytes o) ≡ 6
 operation-long o = ap (λ (n : ℕ). suc (suc n)) (length-leBytes 4 (o .value))
 
 -- lengths
-pub length-entries : (l : List Entry) → length (entriesBytes l) ≡ 6 * length l
-length-entries l = length-list 6 entryBytes (λ s. noEntry) noEntry entry-long l
-
-pub length-operations : (l : List Operation) → length (operationsBytes l) ≡ 6 * length l
-length-operations l = length-list 6 operationBytes (λ s. noOperation) noOperation operation-long l
-
-pub length-numbers : (l : List ℕ) → length (numbersBytes l) ≡ 2 * length l
-length-numbers l = length-list 2 (leBytes 2) (λ s. 0) 0 (length-leBytes 2) l
-
 pub length-balances : (l : List ℕ) → length (balancesBody l) ≡ 8 * length l
 unfolding balancesBody
-length-balances l = length-list 8 (leBytes 8) (λ s. 0) 0 (length-leBytes 8) l
+length-balances l = length-numbers 8 l
 
 pub length-transaction : (t : Transaction) → length (transactionBody t) ≡ 4 + 6 * length (t .debits) + 6 * length (t .credits) + 6 * length (t .operations)
 unfolding transactionBody
-length-transaction t = simp (length-append, length-entries, length-operations) (omega arith)
+length-transaction t = simp (length-append, length-list 6 entryBytes noEntry entry-long, length-list 6 operationBytes noOperation operation-long) (omega arith)
 
 pub length-block : (m : ℕ) (b : Block) (cites : List ℕ) → length (blockBody m b cites) ≡ 10 + 2 * m + 2 * length cites
 unfolding blockBody

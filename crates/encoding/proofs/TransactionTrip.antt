@@ -1,20 +1,20 @@
 -- A transaction's body, written and read back; and read and written again.
 -- Assumes nothing.
 use Prim.Native.Nat.{_*_, _+_, _<_, _≤_, ℕ}
-use lib.ListN.{drop, getD, length, length-drop, take}
+use lib.ListN.{drop, length, length-drop, take}
 use lib.Seq.{drop-at, drop-drop, getD-drop, take-all}
 use mathlib.Core.List.{List, [], _++_, _∷_, append-assoc, append-nil}
 use mathlib.Core.Path.{_∙_, _≡_, ap, refl, sym}
 use native.Mathlib.Nat.{add-zero, not-suc-le-zero}
 use native.Mathlib.Omega.{arith}
-use Rattle.encoding.proofs.Lengths.{entry-long, length-entries, length-transaction, operation-long}
+use Rattle.encoding.proofs.Lengths.{entry-long, length-transaction, operation-long}
 use Rattle.encoding.specs.Body.{entriesBytes, entryBytes, operationBytes, operationsBytes, transactionBody}
 use Rattle.encoding.specs.Fits.{TransactionFits}
 use Rattle.fields.proofs.NumberLaws.{join, le-drop, le-of-bytes, le-step, length-leBytes, piece}
-use Rattle.fields.proofs.RowLaws.{list-back, list-forth}
+use Rattle.fields.proofs.RowLaws.{length-list, list-back, list-forth}
 use Rattle.fields.specs.Number.{AreBytes, le, leBytes}
 use Rattle.refusals.proofs.CheckedLaws.{held}
-use Rattle.sums.proofs.SeqLaws.{length-tabulate, tabulate-ext}
+use Rattle.sums.proofs.SeqLaws.{length-tabulate}
 use Rattle.sums.proofs.TestLaws.{both-true}
 use Rattle.sums.specs.Seq.{tabulate}
 use Rattle.transactions.proofs.BodyLaws.{counts-small}
@@ -24,36 +24,30 @@ use Rattle.transactions.specs.Check.{checkTransaction, countsOk, inRange, judge
 use Rattle.transactions.specs.Content.{Entry, Operation, Transaction, entryOf, noEntry, noOperation, operationOf}
 use Rattle.refusals.specs.declared.Checked.the-variants.{Fine}
 
--- an element at the start of some bytes
-abbrev entryDec : List ℕ → Entry
-entryDec s = record { account = le 2 s 0; amount = le 4 s 2 }
+-- an element of some bytes is the first of those from it on
+entry-further : (s : List ℕ) (k : ℕ) → entryIn s k ≡ entryIn (drop (6 * k) s) 0
+entry-further s k = rw (le-drop 2 s (6 * k) 0, le-drop 4 s (6 * k) 2, add-zero) refl
 
-abbrev operationDec : List ℕ → Operation
-operationDec s = record { code = getD s 0 0; register = getD s 1 0; value = le 4 s 2 }
+operation-further : (s : List ℕ) (k : ℕ) → operationIn s k ≡ operationIn (drop (6 * k) s) 0
+operation-further s k = rw (getD-drop (6 * k) s 0 0, getD-drop (6 * k) s 1 0, le-drop 4 s (6 * k) 2, add-zero) refl
 
-entry-at : (s : List ℕ) (k : ℕ) → entryIn s k ≡ entryDec (drop (6 * k) s)
-entry-at s k = rw (le-drop 2 s (6 * k) 0, le-drop 4 s (6 * k) 2, add-zero) refl
-
-operation-at : (s : List ℕ) (k : ℕ) → operationIn s k ≡ operationDec (drop (6 * k) s)
-operation-at s k = rw (getD-drop (6 * k) s 0 0, getD-drop (6 * k) s 1 0, le-drop 4 s (6 * k) 2, add-zero) refl
-
-entry-back : (e : Entry) (rest : List ℕ) → e .account < 65536 → e .amount < 4294967296 → entryDec (entryBytes e ++ rest) ≡ e
+entry-back : (e : Entry) (rest : List ℕ) → e .account < 65536 → e .amount < 4294967296 → entryIn (entryBytes e ++ rest) 0 ≡ e
 entry-back e rest h g =
     let one : le 2 (leBytes 2 (e .account) ++ (leBytes 4 (e .amount) ++ rest)) 0 ≡ e .account = le-of-bytes 2 (e .account) _ h in
     let two : le 4 (leBytes 2 (e .account) ++ (leBytes 4 (e .amount) ++ rest)) 2 ≡ e .amount =
     le-step 4 (leBytes 2 (e .account)) (leBytes 4 (e .amount) ++ rest) 2 0 (length-leBytes 2 (e .account)) ∙ le-of-bytes 4 (e .amount) rest g in
     rw (append-assoc (leBytes 2 (e .account)) (leBytes 4 (e .amount)) rest, one, two) refl
 
-operation-back : (o : Operation) (rest : List ℕ) → o .value < 4294967296 → operationDec (operationBytes o ++ rest) ≡ o
+operation-back : (o : Operation) (rest : List ℕ) → o .value < 4294967296 → operationIn (operationBytes o ++ rest) 0 ≡ o
 operation-back o rest g =
     let value : le 4 (o .code ∷ o .register ∷ (leBytes 4 (o .value) ++ rest)) 2 ≡ o .value =
     le-step 4 (o .code ∷ o .register ∷ []) (leBytes 4 (o .value) ++ rest) 2 0 refl ∙ le-of-bytes 4 (o .value) rest g in
     rw value refl
 
-entry-forth : (s : List ℕ) → AreBytes s → 6 ≤ length s → entryBytes (entryDec s) ≡ take 6 s
+entry-forth : (s : List ℕ) → AreBytes s → 6 ≤ length s → entryBytes (entryIn s 0) ≡ take 6 s
 entry-forth s b h = rw (piece 2 0 s b (omega arith), piece 4 2 s b (omega arith)) (join 2 4 0 s)
 
-operation-forth : (s : List ℕ) → AreBytes s → 6 ≤ length s → operationBytes (operationDec s) ≡ take 6 s
+operation-forth : (s : List ℕ) → AreBytes s → 6 ≤ length s → operationBytes (operationIn s 0) ≡ take 6 s
 operation-forth [] b h = absurd (not-suc-le-zero h)
 operation-forth (x ∷ []) b h = absurd (none h)
   where
@@ -61,28 +55,9 @@ operation-forth (x ∷ []) b h = absurd (none h)
     none h = omega arith
 operation-forth (x ∷ y ∷ s) b h = ap (λ (r : List ℕ). x ∷ y ∷ r) (piece 4 2 (x ∷ y ∷ s) b h)
 
--- lists
 entries-back : (l : List Entry) (post : List ℕ) → ((k : ℕ) → k < length l → entryOf l k .account < 65536) → ((k : ℕ) → k < length l → entryOf l k .amount < 4294967296)
     → tabulate (length l) (entryIn (entriesBytes l ++ post)) ≡ l
-entries-back l post h g =
-    tabulate-ext (length l) (entryIn (entriesBytes l ++ post)) (λ k. entryDec (drop (6 * k) (entriesBytes l ++ post))) (λ k lt. entry-at (entriesBytes l ++ post) k)
-    ∙ list-back 6 entryBytes entryDec noEntry entry-long l post (λ k rest lt. entry-back (entryOf l k) rest (h k lt) (g k lt))
-
-operations-back : (l : List Operation) (post : List ℕ) → ((k : ℕ) → k < length l → operationOf l k .value < 4294967296)
-    → tabulate (length l) (operationIn (operationsBytes l ++ post)) ≡ l
-operations-back l post g =
-    tabulate-ext (length l) (operationIn (operationsBytes l ++ post)) (λ k. operationDec (drop (6 * k) (operationsBytes l ++ post))) (λ k lt. operation-at (operationsBytes l ++ post) k)
-    ∙ list-back 6 operationBytes operationDec noOperation operation-long l post (λ k rest lt. operation-back (operationOf l k) rest (g k lt))
-
-entries-forth : (n at : ℕ) (s : List ℕ) → AreBytes s → at + 6 * n ≤ length s → entriesBytes (tabulate n (entryIn (drop at s))) ≡ take (6 * n) (drop at s)
-entries-forth n at s b h =
-    ap entriesBytes (tabulate-ext n (entryIn (drop at s)) (λ k. entryDec (drop (at + 6 * k) s)) (λ k lt. entry-at (drop at s) k ∙ ap entryDec (drop-drop (6 * k) at s)))
-    ∙ list-forth 6 entryBytes entryDec noEntry entry-long entry-forth n at s b h
-
-operations-forth : (n at : ℕ) (s : List ℕ) → AreBytes s → at + 6 * n ≤ length s → operationsBytes (tabulate n (operationIn (drop at s))) ≡ take (6 * n) (drop at s)
-operations-forth n at s b h =
-    ap operationsBytes (tabulate-ext n (operationIn (drop at s)) (λ k. operationDec (drop (at + 6 * k) s)) (λ k lt. operation-at (drop at s) k ∙ ap operationDec (drop-drop (6 * k) at s)))
-    ∙ list-forth 6 operationBytes operationDec noOperation operation-long operation-forth n at s b h
+entries-back l post h g = list-back 6 entryBytes noEntry entry-long entryIn entry-further l post (λ k rest lt. entry-back (entryOf l k) rest (h k lt) (g k lt))
 
 -- reading what was written, whatever stands after it
 module _ (t : Transaction) (post : List ℕ) (sized : TransactionFits t) where
@@ -99,20 +74,21 @@ module _ (t : Transaction) (post : List ℕ) (sized : TransactionFits t) where
   after-debits =
       sym (drop-drop (6 * length (t .debits)) 4 B)
       ∙ ap (drop (6 * length (t .debits))) after-counts
-      ∙ drop-at (entriesBytes (t .debits)) _ (6 * length (t .debits)) (length-entries (t .debits))
+      ∙ drop-at (entriesBytes (t .debits)) _ (6 * length (t .debits)) (length-list 6 entryBytes noEntry entry-long (t .debits))
 
   after-credits : drop (4 + 6 * length (t .debits) + 6 * length (t .credits)) B ≡ operationsBytes (t .operations) ++ post
   after-credits =
       sym (drop-drop (6 * length (t .credits)) (4 + 6 * length (t .debits)) B)
       ∙ ap (drop (6 * length (t .credits))) after-debits
-      ∙ drop-at (entriesBytes (t .credits)) _ (6 * length (t .credits)) (length-entries (t .credits))
+      ∙ drop-at (entriesBytes (t .credits)) _ (6 * length (t .credits)) (length-list 6 entryBytes noEntry entry-long (t .credits))
 
   pub transaction-back : transactionOf (transactionBody t ++ post) ≡ t
   unfolding transactionOf transactionBody
   transaction-back =
       let d = ap (λ (r : List ℕ). tabulate (length (t .debits)) (entryIn r)) after-counts ∙ entries-back (t .debits) _ (sized .payer) (sized .debit) in
       let c = ap (λ (r : List ℕ). tabulate (length (t .credits)) (entryIn r)) after-debits ∙ entries-back (t .credits) _ (sized .payee) (sized .credit) in
-      let o = ap (λ (r : List ℕ). tabulate (length (t .operations)) (operationIn r)) after-credits ∙ operations-back (t .operations) post (sized .value) in
+      let o = ap (λ (r : List ℕ). tabulate (length (t .operations)) (operationIn r)) after-credits ∙ list-back 6 operationBytes noOperation operation-long operationIn operation-further (t .operations) post
+      (λ k rest lt. operation-back (operationOf (t .operations) k) rest (sized .value k lt)) in
       same d c o
     where
       same : {d d′ c c′ : List Entry} {o o′ : List Operation} → d ≡ d′ → c ≡ c′ → o ≡ o′
@@ -124,7 +100,11 @@ lists-forth : (s : List ℕ) (d c o : ℕ) → AreBytes s → length s ≡ 4 + 6
     → entriesBytes (tabulate d (entryIn (drop 4 s))) ++ (entriesBytes (tabulate c (entryIn (drop (4 + 6 * d) s))) ++ operationsBytes (tabulate o (operationIn (drop (4 + 6 * d + 6 * c) s))))
     ≡ drop 4 s
 lists-forth s d c o b long =
-    rw (entries-forth d 4 s b (omega arith), entries-forth c (4 + 6 * d) s b (omega arith), operations-forth o (4 + 6 * d + 6 * c) s b (omega arith))
+    rw (
+      list-forth 6 entryBytes noEntry entry-long entryIn entry-further entry-forth d 4 s b (omega arith),
+      list-forth 6 entryBytes noEntry entry-long entryIn entry-further entry-forth c (4 + 6 * d) s b (omega arith),
+      list-forth 6 operationBytes noOperation operation-long operationIn operation-further operation-forth o (4 + 6 * d + 6 * c) s b (omega arith),
+    )
     (ap (λ (r : List ℕ). take (6 * d) (drop 4 s) ++ r) (join (6 * c) (6 * o) (4 + 6 * d) s)
     ∙ join (6 * d) (6 * c + 6 * o) 4 s
     ∙ take-all (6 * d + (6 * c + 6 * o)) (drop 4 s) (simp length-drop (omega arith)))

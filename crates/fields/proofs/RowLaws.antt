@@ -2,7 +2,7 @@
 -- Assumes nothing.
 use Prim.Native.Nat.{_*_, _+_, _<_, _^_, _≤_, suc, zero, ℕ}
 use lib.ListN.{drop, getD, length, length-append, length-drop, take}
-use lib.Seq.{drop-at, drop-drop, sets, take-add}
+use lib.Seq.{drop-at, sets, take-add}
 use mathlib.Core.List.{List, [], _++_, append-assoc}
 use mathlib.Core.Logic.{⊎-elim}
 use mathlib.Core.Path.{_∙_, _≡_, ap, refl, sym}
@@ -13,7 +13,7 @@ use Rattle.fields.proofs.NumberLaws.{areBytes-drop, le-drop, le-of-byte
 use Rattle.fields.proofs.StoreLaws.{sets-then}
 use Rattle.fields.specs.Number.{AreBytes, le, leBytes}
 use Rattle.fields.specs.Rows.{listBytes, rowsTo}
-use Rattle.sums.proofs.SeqLaws.{getD-tabulate, length-tabulate, tabulate-ext, tabulate-is}
+use Rattle.sums.proofs.SeqLaws.{tabulate-each, tabulate-ext, tabulate-is}
 use Rattle.sums.specs.Seq.{tabulate}
 
 pub rows-none : (g : ℕ → List ℕ) → rowsTo 0 g ≡ []
@@ -48,56 +48,54 @@ module _ (w : ℕ) (g : ℕ → List ℕ) (each : (k : ℕ) → length (g k) ≡
       (λ lt. rows-drop n k (g n ++ post) lt)
       (eq-or-lt-of-le (le-of-suc-le-suc h)))
 
-module _ {A : Type 0} (w : ℕ) (enc : A → List ℕ) (dec : List ℕ → A) (none : A) (each : (x : A) → length (enc x) ≡ w) where
+-- the bytes of a tabulate
+pub list-tabulate : {A : Type 0} (enc : A → List ℕ) (none : A) (n : ℕ) (f : ℕ → A) → listBytes enc none (tabulate n f) ≡ rowsTo n (λ k. enc (f k))
+unfolding listBytes
+list-tabulate enc none n f = tabulate-each none n f rowsTo rows-same enc
+
+module _ {A : Type 0} (w : ℕ) (enc : A → List ℕ) (none : A) (each : (x : A) → length (enc x) ≡ w) where
   pub length-list : (l : List A) → length (listBytes enc none l) ≡ w * length l
   unfolding listBytes
   length-list l = length-rows w (λ k. enc (getD l k none)) (λ k. each (getD l k none)) (length l)
 
-  -- reading what was written
-  pub list-back : (l : List A) (post : List ℕ) → ((k : ℕ) (rest : List ℕ) → k < length l → dec (enc (getD l k none) ++ rest) ≡ getD l k none)
-      → tabulate (length l) (λ k. dec (drop (w * k) (listBytes enc none l ++ post))) ≡ l
-  unfolding listBytes
-  list-back l post back =
-      tabulate-is l (length l) (λ k. dec (drop (w * k) (listBytes enc none l ++ post))) none refl
-      (λ k h.
-      let r = rows-drop w (λ i. enc (getD l i none)) (λ i. each (getD l i none)) (length l) k post h in
-      ap dec (r .1) ∙ back k (r .0) h)
-
-  -- writing what was read
-  module _ (forth : (s : List ℕ) → AreBytes s → w ≤ length s → enc (dec s) ≡ take w s) where
-    rows-piece : (n at : ℕ) (s : List ℕ) → AreBytes s → at + w * n ≤ length s → rowsTo n (λ k. enc (dec (drop (at + w * k) s))) ≡ take (w * n) (drop at s)
-    unfolding rowsTo
-    rows-piece zero at s b h = rw mul-zero refl
-    rows-piece (suc n) at s b h =
-        let h′ = rw mul-suc at h in
-        let last = forth (drop (at + w * n) s) (areBytes-drop (at + w * n) s b) (simp length-drop (omega arith)) in
-        rw (rows-piece n at s b (omega arith), last, mul-suc, take-add, drop-drop) refl
-
-    pub list-forth : (n at : ℕ) (s : List ℕ) → AreBytes s → at + w * n ≤ length s
-        → listBytes enc none (tabulate n (λ k. dec (drop (at + w * k) s))) ≡ take (w * n) (drop at s)
+  -- at reads the k-th row of some bytes as it reads the first from there on
+  module _ (at : List ℕ → ℕ → A) (further : (s : List ℕ) (k : ℕ) → at s k ≡ at (drop (w * k) s) 0) where
+    -- reading what was written
+    pub list-back : (l : List A) (post : List ℕ) → ((k : ℕ) (rest : List ℕ) → k < length l → at (enc (getD l k none) ++ rest) 0 ≡ getD l k none)
+        → tabulate (length l) (at (listBytes enc none l ++ post)) ≡ l
     unfolding listBytes
-    list-forth n at s b h =
-        let f : ℕ → A = λ k. dec (drop (at + w * k) s) in
-        rw length-tabulate
-        (rows-same n (λ k. enc (getD (tabulate n f) k none)) (λ k. enc (f k)) (λ k lt. ap enc (getD-tabulate n f k none lt)) ∙ rows-piece n at s b h)
+    list-back l post back =
+        tabulate-is l (length l) (at (listBytes enc none l ++ post)) none refl
+        (λ k h.
+        let r = rows-drop w (λ i. enc (getD l i none)) (λ i. each (getD l i none)) (length l) k post h in
+        further (listBytes enc none l ++ post) k ∙ ap (λ (s : List ℕ). at s 0) (r .1) ∙ back k (r .0) h)
 
--- the bytes of a tabulate
-pub list-tabulate : {A : Type 0} (enc : A → List ℕ) (none : A) (n : ℕ) (f : ℕ → A) → listBytes enc none (tabulate n f) ≡ rowsTo n (λ k. enc (f k))
-unfolding listBytes
-list-tabulate enc none n f = rw length-tabulate (rows-same n (λ k. enc (getD (tabulate n f) k none)) (λ k. enc (f k)) (λ k lt. ap enc (getD-tabulate n f k none lt)))
+    -- writing what was read
+    module _ (forth : (s : List ℕ) → AreBytes s → w ≤ length s → enc (at s 0) ≡ take w s) where
+      rows-forth : (n : ℕ) (s : List ℕ) → AreBytes s → w * n ≤ length s → rowsTo n (λ k. enc (at s k)) ≡ take (w * n) s
+      unfolding rowsTo
+      rows-forth zero s b h = rw mul-zero refl
+      rows-forth (suc n) s b h =
+          let h′ = rw mul-suc at h in
+          let last = ap enc (further s n) ∙ forth (drop (w * n) s) (areBytes-drop (w * n) s b) (simp length-drop (omega arith)) in
+          rw (rows-forth n s b (omega arith), last, mul-suc, take-add) refl
 
--- numbers of w bytes, from place at on
-pub number-at : (w at k : ℕ) (s : List ℕ) → le w s (at + k) ≡ le w (drop (at + k) s) 0
-number-at w at k s = sym (rw add-zero at (le-drop w s (at + k) 0))
+      pub list-forth : (n from : ℕ) (s : List ℕ) → AreBytes s → from + w * n ≤ length s → listBytes enc none (tabulate n (at (drop from s))) ≡ take (w * n) (drop from s)
+      list-forth n from s b h = list-tabulate enc none n (at (drop from s)) ∙ rows-forth n (drop from s) (areBytes-drop from s b) (simp length-drop (omega arith))
 
+-- numbers of w bytes
 module _ (w : ℕ) where
+  pub length-numbers : (l : List ℕ) → length (listBytes (leBytes w) 0 l) ≡ w * length l
+  length-numbers l = length-list w (leBytes w) 0 (length-leBytes w) l
+
+  number-further : (s : List ℕ) (k : ℕ) → le w s (w * k) ≡ le w (drop (w * k) s) (w * 0)
+  number-further s k = rw (mul-zero, le-drop, add-zero)
+
   pub numbers-back : (l post : List ℕ) → ((k : ℕ) → k < length l → getD l k 0 < 256 ^ w) → tabulate (length l) (λ k. le w (listBytes (leBytes w) 0 l ++ post) (w * k)) ≡ l
   numbers-back l post h =
-      tabulate-ext (length l) (λ k. le w (listBytes (leBytes w) 0 l ++ post) (w * k)) (λ k. le w (drop (w * k) (listBytes (leBytes w) 0 l ++ post)) 0)
-      (λ k lt. sym (rw add-zero at (le-drop w (listBytes (leBytes w) 0 l ++ post) (w * k) 0)))
-      ∙ list-back w (leBytes w) (λ s. le w s 0) 0 (length-leBytes w) l post (λ k rest lt. le-of-bytes w (getD l k 0) rest (h k lt))
+      list-back w (leBytes w) 0 (length-leBytes w) (λ s k. le w s (w * k)) number-further l post (λ k rest lt. rw mul-zero (le-of-bytes w (getD l k 0) rest (h k lt)))
 
   pub numbers-forth : (n at : ℕ) (s : List ℕ) → AreBytes s → at + w * n ≤ length s → listBytes (leBytes w) 0 (tabulate n (λ k. le w s (at + w * k))) ≡ take (w * n) (drop at s)
   numbers-forth n at s b h =
-      ap (listBytes (leBytes w) 0) (tabulate-ext n (λ k. le w s (at + w * k)) (λ k. le w (drop (at + w * k) s) 0) (λ k lt. number-at w at (w * k) s))
-      ∙ list-forth w (leBytes w) (λ r. le w r 0) 0 (length-leBytes w) (λ r c g. piece w 0 r c (omega arith)) n at s b h
+      ap (listBytes (leBytes w) 0) (tabulate-ext n _ _ (λ k lt. sym (le-drop w s at (w * k))))
+      ∙ list-forth w (leBytes w) 0 (length-leBytes w) (λ r k. le w r (w * k)) number-further (λ r c g. rw mul-zero (piece w 0 r c (omega arith))) n at s b h
