@@ -1,6 +1,6 @@
 -- Operations on the registers: the 64 cells of which the first g are the sheet's.
 -- Assumes nothing.
-use Prim.Native.Nat.{_+_, _-_, _<_, _≤_, suc, zero, ℕ}
+use Prim.Native.Nat.{_+_, _-_, _<_, _≤_, min, suc, zero, ℕ}
 use borrow.Author.Tests.{eq-eqb, le-leb, lt-leb, ne-eqb}
 use lib.Dec.{eqb, leb}
 use lib.ListN.{List·getD-eq-default, drop, getD, length, length-take, set, take}
@@ -14,7 +14,7 @@ use native.Mathlib.Numerals.{add-one}
 use native.Mathlib.Omega.{arith}
 use Rattle.transactions.specs.Content.{Operation, Transaction, noOperation}
 use Rattle.transactions.specs.Body.{operationIn, operationsFrom, transactionOf}
-use Rattle.sheets.proofs.SheetCells.{tx-in, tx-past}
+use Rattle.sheets.proofs.SheetCells.{tx-from, tx-past}
 use Rattle.sheets.specs.Operations.{Leaves, Done, assigned, operate, operateTo, operated, tested}
 use Rattle.sheets.specs.Sheet.{sheetIn, slot, txAt}
 use Rattle.sums.proofs.SeqLaws.{getD-tabulate, length-tabulate}
@@ -25,10 +25,7 @@ use Rattle.sheets.specs.declared.operations.Ran.{Ran}
 use Rattle.sheets.specs.declared.sheet.Sizes.{Sizes}
 
 module _ (g : ℕ) (cells : List ℕ) (sized : length cells ≡ 64) (i : ℕ) where
-  pub register-out : 64 ≤ i → 0 ≡ getD (take g cells) i 0
-  register-out h = sym (List·getD-eq-default (take g cells) 0 (omega (arith, length-take g cells)))
-
-  pub register-past : g ≤ i → 0 ≡ getD (take g cells) i 0
+  pub register-past : min g 64 ≤ i → 0 ≡ getD (take g cells) i 0
   register-past h = sym (List·getD-eq-default (take g cells) 0 (omega (arith, length-take g cells)))
 
   pub register-in : i < g → getD cells i 0 ≡ getD (take g cells) i 0
@@ -182,8 +179,7 @@ pub run-in : (b : List ℕ) (z : Sizes) (x : ℕ) (body list : List ℕ) (n : �
 unfolding operated transactionOf
 run-in b z x body list n cells r h e el en q =
     let t : tabulate n (operationIn list) ≡ txAt (sheetIn b z) x .operations =
-    ap₂ (λ (l : List ℕ) (c : ℕ). tabulate c (operationIn l)) (el ∙ ap (λ (l : List ℕ). drop (operationsFrom l) l) e) (en ∙ ap (λ (l : List ℕ). getD l 3 0) e)
-    ∙ sym (ap (λ (t : Transaction). t .operations) (tx-in b z x h)) in
+    ap₂ (λ (l : List ℕ) (c : ℕ). tabulate c (operationIn l)) el en ∙ ap (λ (t : Transaction). t .operations) (tx-from b z x body e h) in
     subst (λ (ops : List Operation). Leaves (z .g) r (operateTo ops (length ops) (take (z .g) cells))) t
     (subst (λ (c : ℕ). Leaves (z .g) r (operateTo (tabulate n (operationIn list)) c (take (z .g) cells))) (sym (length-tabulate n (operationIn list))) q)
 

@@ -11,15 +11,14 @@ use native.Mathlib.Omega.{arith}
 use Rattle.transactions.specs.Content.{Entry, Transaction, entryOf, noEntry}
 use Rattle.transactions.specs.Body.{entryIn, transactionOf}
 use Rattle.sheets.proofs.HomeLaws.{home-lt}
-use Rattle.sheets.proofs.SheetCells.{sheet-m, tx-in, tx-past}
+use Rattle.sheets.proofs.SheetCells.{sheet-m, tx-from, tx-past}
 use Rattle.sheets.specs.Inner.{entryAtHome, firstAtHome}
 use Rattle.sheets.specs.Parts.{hasPart, home, parts}
 use Rattle.sheets.specs.Sheet.{Sheet, sheetIn, slot}
 use Rattle.sums.proofs.LoopLaws.{anyTo-none, sum-most}
-use Rattle.sums.proofs.SeqLaws.{getD-tabulate, length-tabulate}
+use Rattle.sums.proofs.SeqLaws.{tabulate-each}
 use Rattle.sums.proofs.SumLaws.{sum-add, sum-ext, sum-zero, sum-zeros}
 use Rattle.sums.proofs.TestLaws.{anyTo-ext, given-false, given-le, given-true, sum-only}
-use Rattle.sums.specs.Seq.{tabulate}
 use Rattle.sums.specs.Sum.{sumTo}
 use Rattle.sums.specs.Test.{anyTo, given, pick}
 use Rattle.sheets.specs.declared.sheet.Sizes.{Sizes}
@@ -42,18 +41,13 @@ module _ (b : List ℕ) (z : Sizes) (x j : ℕ) where
   unfolding hasPart
   part-past h = sym (ap (λ (t : Transaction). anyTo (length (t .debits)) (λ i. eqb (home (sheetIn b z) (entryOf (t .debits) i .account)) j)) (tx-past b z x h) ∙ anyTo-none _)
 
-  part-listed : (n : ℕ) (f : ℕ → Entry) → anyTo (length (tabulate n f)) (λ i. eqb (home (sheetIn b z) (entryOf (tabulate n f) i .account)) j) ≡ anyTo n (entryAtHome (sheetIn b z) f j)
-  unfolding entryAtHome
-  part-listed n f =
-      ap (λ (c : ℕ). anyTo c (λ i. eqb (home (sheetIn b z) (entryOf (tabulate n f) i .account)) j)) (length-tabulate n f)
-      ∙ anyTo-ext n _ _ (λ i l. ap (λ (e : Entry). eqb (home (sheetIn b z) (e .account)) j) (getD-tabulate n f i noEntry l))
-
   pub part-in : (body list : List ℕ) (n : ℕ) (r : Bool) → x < z .t → body ≡ slot b z x → r ≡ anyTo n (entryAtHome (sheetIn b z) (entryIn list) j)
       → list ≡ drop 4 body → n ≡ getD body 1 0 → r ≡ hasPart (sheetIn b z) x j
-  unfolding hasPart transactionOf
+  unfolding hasPart transactionOf entryAtHome
   part-in body list n r h e q el en =
-      q ∙ ap₂ (λ (l : List ℕ) (c : ℕ). anyTo c (entryAtHome (sheetIn b z) (entryIn l) j)) (el ∙ ap (drop 4) e) (en ∙ ap (λ (l : List ℕ). getD l 1 0) e)
-      ∙ sym (part-listed _ _) ∙ sym (ap (λ (t : Transaction). anyTo (length (t .debits)) (λ i. eqb (home (sheetIn b z) (entryOf (t .debits) i .account)) j)) (tx-in b z x h))
+      q ∙ ap₂ (λ (l : List ℕ) (c : ℕ). anyTo c (entryAtHome (sheetIn b z) (entryIn l) j)) el en
+      ∙ sym (tabulate-each noEntry _ _ anyTo anyTo-ext (λ (a : Entry). eqb (home (sheetIn b z) (a .account)) j))
+      ∙ ap (λ (t : Transaction). anyTo (length (t .debits)) (λ i. eqb (home (sheetIn b z) (entryOf (t .debits) i .account)) j)) (tx-from b z x body e h)
 
 -- ---- how many parts
 

@@ -1,23 +1,25 @@
 -- A sheet whose every test passes is proper, and what a proper sheet gives to the theorems.
 -- Assumes nothing.
-use Prim.Native.Nat.{_<_, _≤_, suc, zero, ℕ}
-use borrow.Author.Tests.{eq-eqb, eqb-false, eqb-true, leb-true, ltb-true}
-use lib.Dec.{eqb, leb, ltb}
+use Prim.Native.Nat.{_<_, _≤_, ℕ}
+use borrow.Author.Tests.{eq-eqb, eqb-false, eqb-true, ltb-true, not-true}
+use lib.Dec.{eqb, ltb}
 use lib.ListN.{List·getD-eq-default, length}
-use mathlib.Core.Bool.{Bool, false, not, true}
+use mathlib.Core.Bool.{Bool, true}
 use mathlib.Core.Logic.{_≢_}
-use mathlib.Core.Path.{_≡_, ap, refl, sym}
+use mathlib.Core.Path.{_≡_, ap, refl}
 use native.Mathlib.Decide.{decLt}
 use native.Mathlib.Omega.{arith}
 use Rattle.transactions.specs.Content.{Transaction, entryOf, noTransaction}
 use Rattle.sheets.specs.Proper.{isFine, isProper}
 use Rattle.sheets.specs.Sheet.{Sheet, txAt, txCount}
-use Rattle.sums.proofs.TestLaws.{allTo-true, both-true, passed, peel, took}
+use Rattle.refusals.proofs.CheckedLaws.{held}
+use Rattle.sums.proofs.TestLaws.{allTo-each, allTo-true, both-true, took}
 use Rattle.sums.specs.Sum.{sumTo}
-use Rattle.sums.specs.Test.{allTo, pick}
+use Rattle.sums.specs.Test.{allTo}
+use Rattle.transactions.proofs.BodyLaws.{judged-anywhere}
 use Rattle.refusals.specs.declared.Checked.{Checked}
-use Rattle.refusals.specs.declared.Refusal.{Refusal}
 use Rattle.transactions.specs.Check.{accountsOnce, balanced, countsOk, distinct, entriesOk, entryOk, inRange, judgeTransaction, newAt}
+use Rattle.frames.proofs.HeaderLaws.{header-bounds}
 use Rattle.frames.specs.Balances.{balancesOk}
 use Rattle.frames.specs.Header.{headerOk}
 
@@ -42,17 +44,6 @@ record TxProper (a : ℕ) (t : Transaction) : Type 0 where
   credited : (i : ℕ) → i < length (t .credits) → entryOf (t .credits) i .account < a
   balanced : sumTo (length (t .debits)) (λ i. entryOf (t .debits) i .amount) ≡ sumTo (length (t .credits)) (λ i. entryOf (t .credits) i .amount)
 
-turned : (b : Bool) → not b ≡ false → b ≡ true
-turned true e = refl
-turned false e = sym e
-
-unturned : (b : Bool) → not b ≡ true → b ≡ false
-unturned true e = sym e
-unturned false e = refl
-
-no-refusal : {r : Refusal} → Checked.Refused r ≡ Checked.Fine → ⊥
-no-refusal q = let z : _≡_ {A = ℕ} 0 1 = cc in omega arith
-
 fine-true : (c : Checked) → isFine c ≡ true → c ≡ Checked.Fine
 fine-true Checked.Fine e = refl
 fine-true (Checked.Refused r) e = absurd (let z : _≡_ {A = ℕ} 0 1 = cc in omega arith)
@@ -62,15 +53,9 @@ module _ (at a g : ℕ) (t : Transaction) (fine : judgeTransaction at a g t ≡ 
   tests : (inRange a g t ≡ true) × (accountsOnce t ≡ true) × (balanced t ≡ true)
   unfolding judgeTransaction
   tests =
-      let p = peel (not (inRange a g t)) no-refusal fine in
-      let q = peel (not (accountsOnce t)) no-refusal (p .1) in
-      let r = peel (not (balanced t)) no-refusal (q .1) in
-      (turned (inRange a g t) (p .0), turned (accountsOnce t) (q .0), turned (balanced t) (r .0))
-
-  -- so at any place
-  pub fine-anywhere : (at' : ℕ) → judgeTransaction at' a g t ≡ Checked.Fine
-  unfolding judgeTransaction
-  fine-anywhere at' = passed _ (ap not (tests .0)) (passed _ (ap not (tests .1)) (passed _ (ap not (tests .2)) refl))
+      let p = held (inRange a g t) _ fine in
+      let q = held (accountsOnce t) _ (p .1) in
+      (p .0, q .0, held (balanced t) _ (q .1) .0)
 
   on-sheet : (n : ℕ) (k : ℕ → ℕ) → (f : ℕ → Bool) → ((i : ℕ) → f i ≡ true → k i < a) → allTo n f ≡ true → (i : ℕ) → i < n → k i < a
   on-sheet n k f h e i l = h i (allTo-true n f e i l)
@@ -84,7 +69,7 @@ module _ (at a g : ℕ) (t : Transaction) (fine : judgeTransaction at a g t ≡ 
       let once = both-true (distinct (length (t .debits)) (entryOf (t .debits))) (tests .1) .0 in
       record {
         apart = λ i i' l l'. eqb-false (entryOf (t .debits) i .account) (entryOf (t .debits) i' .account)
-            (unturned _ (allTo-true i' _ (allTo-true (length (t .debits)) (newAt (entryOf (t .debits))) once i' l') i l));
+            (not-true _ (allTo-true i' _ (allTo-true (length (t .debits)) (newAt (entryOf (t .debits))) once i' l') i l));
         debited = on-sheet _ (λ i. entryOf (t .debits) i .account) _ (λ i e. ltb-true _ a (both-true (ltb (entryOf (t .debits) i .account) a) e .0)) (debits .0);
         credited = on-sheet _ (λ i. entryOf (t .credits) i .account) _ (λ i e. ltb-true _ a (both-true (ltb (entryOf (t .credits) i .account) a) e .0)) (credits .0);
         balanced = eqb-true _ _ (tests .2);
@@ -95,11 +80,6 @@ none-proper a = record { apart = λ i i' l l'. absurd (omega arith); debited = �
 
 -- ---- a sheet
 
-every : (n : ℕ) (f : ℕ → Bool) → ((i : ℕ) → i < n → f i ≡ true) → allTo n f ≡ true
-unfolding allTo pick
-every zero f h = refl
-every (suc n) f h = took _ (h n (omega arith)) (every n f (λ i l. h i (omega arith)))
-
 module _ (S : Sheet) where
   abbrev fineAt : ℕ → Bool
   fineAt x = isFine (judgeTransaction 0 (S .a) (S .g) (txAt S x))
@@ -109,7 +89,7 @@ module _ (S : Sheet) where
       → ((x : ℕ) → x < txCount S → (at : ℕ) × (judgeTransaction at (S .a) (S .g) (txAt S x) ≡ Checked.Fine)) → isProper S ≡ true
   unfolding isProper
   proper-so h l b f =
-      took _ h (took _ (eq-eqb _ _ l) (took _ b (every (txCount S) fineAt (λ x u. let (at, e) = f x u in ap isFine (fine-anywhere at (S .a) (S .g) (txAt S x) e 0)))))
+      took _ h (took _ (eq-eqb _ _ l) (took _ b (allTo-each (txCount S) fineAt (λ x u. let (at, e) = f x u in ap isFine (judged-anywhere at 0 (S .a) (S .g) (txAt S x) e)))))
 
   -- the tests of a proper sheet
   pub proper-tests : isProper S ≡ true
@@ -121,26 +101,16 @@ module _ (S : Sheet) where
       let r = both-true (balancesOk (S .balances)) (q .1) in
       (p .0, eqb-true _ _ (q .0), r .0, r .1)
 
-  header-facts : headerOk (S .m) (S .a) (S .g) (txCount S) ≡ true → (0 < S .m) × (S .m ≤ 16) × (S .a ≤ 1024) × (S .g ≤ 64) × (txCount S ≤ 1024)
-  unfolding headerOk
-  header-facts e =
-      let p1 = both-true (leb 1 (S .m)) e in
-      let p2 = both-true (leb (S .m) 16) (p1 .1) in
-      let p3 = both-true (leb 1 (S .a)) (p2 .1) in
-      let p4 = both-true (leb (S .a) 1024) (p3 .1) in
-      let p5 = both-true (leb (S .g) 64) (p4 .1) in
-      (leb-true 1 (S .m) (p1 .0), leb-true (S .m) 16 (p2 .0), leb-true (S .a) 1024 (p4 .0), leb-true (S .g) 64 (p5 .0), leb-true (txCount S) 1024 (p5 .1))
-
   pub proper-sheet : isProper S ≡ true → ProperSheet S
   proper-sheet e =
       let ts = proper-tests e in
-      let h = header-facts (ts .0) in
+      let h = header-bounds (S .m) (S .a) (S .g) (txCount S) (ts .0) in
       record {
-        some = h .0;
-        small = h .1;
-        accounts = h .2;
-        registers = h .3;
-        few = h .4;
+        some = h .some-instance;
+        small = h .instances;
+        accounts = h .accounts;
+        registers = h .registers;
+        few = h .transactions;
         sized = ts .1;
         apart = λ x. tx (ts .3) x .apart;
         debited = λ x. tx (ts .3) x .debited;

@@ -8,12 +8,12 @@ use mathlib.Core.Bool.{Bool, false, true}
 use mathlib.Core.List.{List, []}
 use mathlib.Core.Path.{_∙_, _≡_, ap, ap₂, refl, sym}
 use native.Mathlib.Omega.{arith}
-use Rattle.transactions.specs.Content.{Entry, Transaction, entryOf, noEntry, noTransaction}
+use Rattle.transactions.specs.Content.{Entry, Transaction, noEntry, noTransaction}
 use Rattle.transactions.specs.Body.{creditsFrom, entryIn, transactionOf}
 use Rattle.sheets.specs.Inner.{entriesOn, entryOn}
 use Rattle.sheets.specs.Parts.{amountOn, isContract}
 use Rattle.sheets.specs.Sheet.{balanceIn, sheetFrom, sheetIn, slot, txAt, txCount}
-use Rattle.sums.proofs.SeqLaws.{getD-tabulate, length-tabulate, tabulate-past}
+use Rattle.sums.proofs.SeqLaws.{getD-tabulate, length-tabulate, tabulate-each, tabulate-past}
 use Rattle.sums.proofs.SumLaws.{sum-ext, sum-zero}
 use Rattle.sums.proofs.TestLaws.{given-false, given-true}
 use Rattle.sums.specs.Seq.{tabulate}
@@ -58,9 +58,13 @@ module _ (b : List ℕ) (z : Sizes) where
   balance-in k v r h e q = q ∙ ap (λ (w : ℕ). min w 1099511627776) e ∙ sym (getD-tabulate (z .a) (balanceIn b) k 0 h)
 
   module _ (x : ℕ) (body : List ℕ) (e : body ≡ slot b z x) where
+    -- what its slot says is transaction x
+    pub tx-from : x < z .t → transactionOf body ≡ txAt (sheetIn b z) x
+    tx-from h = ap transactionOf e ∙ sym (tx-in x h)
+
     pub kind-in : x < z .t → (r : ℕ) → r ≡ getD body 0 0 → r ≡ txAt (sheetIn b z) x .kind
     unfolding transactionOf
-    kind-in h r q = q ∙ ap (λ (l : List ℕ). getD l 0 0) e ∙ sym (ap (λ (t : Transaction). t .kind) (tx-in x h))
+    kind-in h r q = q ∙ ap (λ (t : Transaction). t .kind) (tx-from h)
 
   pub kind-past : (x : ℕ) → z .t ≤ x → 0 ≡ txAt (sheetIn b z) x .kind
   kind-past x h = sym (ap (λ (t : Transaction). t .kind) (tx-past x h))
@@ -92,9 +96,7 @@ entry-miss s i k c e h = sym (given-false _ _ (ne-eqb (entryIn s i .account) k (
 
 pub amount-tab : (n : ℕ) (f : ℕ → Entry) (k : ℕ) → amountOn (tabulate n f) k ≡ entriesOn f n k
 unfolding amountOn entriesOn entryOn
-amount-tab n f k =
-    ap (λ (c : ℕ). sumTo c (λ i. given (eqb (entryOf (tabulate n f) i .account) k) (entryOf (tabulate n f) i .amount))) (length-tabulate n f)
-    ∙ sum-ext n _ _ (λ i l. ap (λ (e : Entry). given (eqb (e .account) k) (e .amount)) (getD-tabulate n f i noEntry l))
+amount-tab n f k = tabulate-each noEntry n f sumTo sum-ext (λ e. given (eqb (e .account) k) (e .amount))
 
 pub amount-none : (k : ℕ) → 0 ≡ amountOn [] k
 unfolding amountOn
@@ -111,11 +113,11 @@ module _ (b : List ℕ) (z : Sizes) (x k : ℕ) where
     pub debit-in : list ≡ drop 4 body → n ≡ getD body 1 0 → r ≡ amountOn (txAt (sheetIn b z) x .debits) k
     unfolding transactionOf
     debit-in el en =
-        q ∙ ap₂ (λ (l : List ℕ) (c : ℕ). entriesOn (entryIn l) c k) (el ∙ ap (drop 4) e) (en ∙ ap (λ (l : List ℕ). getD l 1 0) e)
-        ∙ sym (amount-tab _ _ k) ∙ sym (ap (λ (t : Transaction). amountOn (t .debits) k) (tx-in b z x h))
+        q ∙ ap₂ (λ (l : List ℕ) (c : ℕ). entriesOn (entryIn l) c k) el en
+        ∙ sym (amount-tab _ _ k) ∙ ap (λ (t : Transaction). amountOn (t .debits) k) (tx-from b z x body e h)
 
     pub credit-in : list ≡ drop (creditsFrom body) body → n ≡ getD body 2 0 → r ≡ amountOn (txAt (sheetIn b z) x .credits) k
     unfolding transactionOf
     credit-in el en =
-        q ∙ ap₂ (λ (l : List ℕ) (c : ℕ). entriesOn (entryIn l) c k) (el ∙ ap (λ (l : List ℕ). drop (creditsFrom l) l) e) (en ∙ ap (λ (l : List ℕ). getD l 2 0) e)
-        ∙ sym (amount-tab _ _ k) ∙ sym (ap (λ (t : Transaction). amountOn (t .credits) k) (tx-in b z x h))
+        q ∙ ap₂ (λ (l : List ℕ) (c : ℕ). entriesOn (entryIn l) c k) el en
+        ∙ sym (amount-tab _ _ k) ∙ ap (λ (t : Transaction). amountOn (t .credits) k) (tx-from b z x body e h)
