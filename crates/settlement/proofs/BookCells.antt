@@ -6,13 +6,14 @@ use lib.Dec.{eqb}
 use lib.ListN.{getD, length, length-set, set, take}
 use lib.Seq.{getD-set-other, getD-set-same, take-suc}
 use mathlib.Core.Bool.{Bool, false, true}
-use mathlib.Core.List.{List, [], _++_, _∷_, append-assoc, append-nil, foldl, foldl-append, map}
+use mathlib.Core.List.{List, [], _++_, _∷_, append-nil, foldl, foldl-append, map}
 use mathlib.Core.Path.{_∙_, _≡_, ap, ap₂, refl, subst, sym}
 use native.Mathlib.Numerals.{add-one}
 use native.Mathlib.Omega.{arith}
 use Rattle.ordering.specs.Order.{Ref}
 use Rattle.ordering.specs.Table.{refIn}
 use Rattle.settlement.proofs.CountCells.{counts-ext, counts-one, event-tx}
+use Rattle.settlement.proofs.ViewOnly.{logEvents-append}
 use Rattle.settlement.specs.Cells.{rowsIn}
 use Rattle.settlement.specs.Contracts.{Book, Status, booked, counted, paid, returned, runAll, settled, step}
 use Rattle.settlement.specs.Inner.{Counts, Holds, countOne, eventOf, most, settledIf}
@@ -152,8 +153,7 @@ run-more S s f n = sym (ap (λ (k : ℕ). foldl (step S) s (tabulate k f)) (add-
 
 logEvents-snoc : (R : Rows) (l : List Ref) (b : Ref) → logEvents R (l ++ (b ∷ [])) ≡ logEvents R l ++ blockEvents R b
 unfolding logEvents
-logEvents-snoc R [] b = append-nil _
-logEvents-snoc R (a ∷ l) b = ap (λ (m : List Event). blockEvents R a ++ m) (logEvents-snoc R l b) ∙ sym (append-assoc (blockEvents R a) (logEvents R l) (blockEvents R b))
+logEvents-snoc R l b = logEvents-append R l (b ∷ []) ∙ ap (λ (m : List Event). logEvents R l ++ m) (append-nil _)
 
 pub log-none : (S : Sheet) (Q : Rows) (s : Book) (l : List ℕ) → runAll S s (logEvents Q (map refIn (take 0 l))) ≡ s
 unfolding runAll logEvents

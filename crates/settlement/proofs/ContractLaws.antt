@@ -15,7 +15,7 @@ use Rattle.settlement.specs.View.{Event}
 use Rattle.sheets.specs.Operations.{operated}
 use Rattle.sheets.specs.Parts.{isContract, parts}
 use Rattle.sheets.specs.Sheet.{Sheet}
-use Rattle.sums.proofs.TestLaws.{by-pick, given-false, given-true, put-add, put-same}
+use Rattle.sums.proofs.TestLaws.{both-true, by-pick, given-false, given-true, put-add, put-same}
 use Rattle.sums.specs.Test.{both, flip, given, pick, put}
 
 -- settled only after all parts were seen
@@ -113,51 +113,43 @@ unfolding eventSum
 eventSum-append w [] l' = omega arith
 eventSum-append w (e ∷ l) l' = ap (λ (z : ℕ). w e + z) (eventSum-append w l l') ∙ sym (add-assoc _ _ _)
 
-settled-seen : (S : Sheet) (s : Book) (x : ℕ) → (settled S s x) .seen ≡ s .seen
-unfolding settled
-settled-seen S s x = by-pick (λ (t : Book). t .seen ≡ s .seen) _ (λ e. refl) (λ e. refl)
-
-settled-spoiled : (S : Sheet) (s : Book) (x : ℕ) → (settled S s x) .spoiled ≡ s .spoiled
-unfolding settled
-settled-spoiled S s x = by-pick (λ (t : Book). t .spoiled ≡ s .spoiled) _ (λ e. refl) (λ e. refl)
-
-booked-seen : (S : Sheet) (s : Book) (e : Event) (y : ℕ) → (booked S s e) .seen y ≡ s .seen y + isCite y e
-unfolding booked counted isCite
-booked-seen S s e y =
-    by-pick (λ (t : Book). t .seen y ≡ (counted s e) .seen y) (eqb ((counted s e) .seen (e .tx)) (parts S (e .tx)))
-    (λ q. ap (λ (f : ℕ → ℕ). f y) (settled-seen S (counted s e) (e .tx))) (λ q. refl)
-    ∙ put-add (s .seen) (e .tx) y 1
-
-booked-spoiled : (S : Sheet) (s : Book) (e : Event) (y : ℕ) → (booked S s e) .spoiled y ≡ s .spoiled y + isFail y e
-unfolding booked counted isFail
-booked-spoiled S s e y =
-    by-pick (λ (t : Book). t .spoiled y ≡ (counted s e) .spoiled y) (eqb ((counted s e) .seen (e .tx)) (parts S (e .tx)))
-    (λ q. ap (λ (f : ℕ → ℕ). f y) (settled-spoiled S (counted s e) (e .tx))) (λ q. refl)
-    ∙ put-add (s .spoiled) (e .tx) y (flip (e .good))
-
 -- an event of what is no contract counts for no contract
 stranger : (S : Sheet) (e : Event) (y n : ℕ) → isContract S y ≡ true → isContract S (e .tx) ≡ false → given (eqb (e .tx) y) n ≡ 0
 stranger S e y n c d = given-false _ _ (ne-eqb (e .tx) y (λ q. let z : _≡_ {A = Bool} true false = sym c ∙ sym (ap (isContract S) q) ∙ d in let z' : _≡_ {A = ℕ} 0 1 = cc in omega arith))
 
-step-seen : (S : Sheet) (s : Book) (e : Event) (y : ℕ) → isContract S y ≡ true → (step S s e) .seen y ≡ s .seen y + isCite y e
-unfolding step
-step-seen S s e y c = by-pick (λ (t : Book). t .seen y ≡ s .seen y + isCite y e) (isContract S (e .tx)) (λ q. booked-seen S s e y)
-    (λ q. unfold isCite in sym (ap (λ (z : ℕ). s .seen y + z) (stranger S e y 1 c q) ∙ add-zero _))
+-- a count of the book that no settlement changes, and to which each event adds its weight
+module _ (S : Sheet) (count : Book → ℕ → ℕ) (weight : Event → ℕ) (kept : (s : Book) (x : ℕ) → count (settled S s x) ≡ count s)
+    (adds : (s : Book) (e : Event) (y : ℕ) → count (counted s e) y ≡ count s y + given (eqb (e .tx) y) (weight e)) where
+  booked-count : (s : Book) (e : Event) (y : ℕ) → count (booked S s e) y ≡ count s y + given (eqb (e .tx) y) (weight e)
+  unfolding booked
+  booked-count s e y =
+      by-pick (λ (t : Book). count t y ≡ count (counted s e) y) (eqb ((counted s e) .seen (e .tx)) (parts S (e .tx)))
+      (λ q. ap (λ (f : ℕ → ℕ). f y) (kept (counted s e) (e .tx))) (λ q. refl)
+      ∙ adds s e y
 
-step-spoiled : (S : Sheet) (s : Book) (e : Event) (y : ℕ) → isContract S y ≡ true → (step S s e) .spoiled y ≡ s .spoiled y + isFail y e
-unfolding step
-step-spoiled S s e y c = by-pick (λ (t : Book). t .spoiled y ≡ s .spoiled y + isFail y e) (isContract S (e .tx)) (λ q. booked-spoiled S s e y)
-    (λ q. unfold isFail in sym (ap (λ (z : ℕ). s .spoiled y + z) (stranger S e y (flip (e .good)) c q) ∙ add-zero _))
+  step-count : (s : Book) (e : Event) (y : ℕ) → isContract S y ≡ true → count (step S s e) y ≡ count s y + given (eqb (e .tx) y) (weight e)
+  unfolding step
+  step-count s e y c =
+      by-pick (λ (t : Book). count t y ≡ count s y + given (eqb (e .tx) y) (weight e)) (isContract S (e .tx)) (λ q. booked-count s e y)
+      (λ q. sym (ap (λ (z : ℕ). count s y + z) (stranger S e y (weight e) c q) ∙ add-zero _))
+
+  run-count : (s : Book) (l : List Event) (y : ℕ) → isContract S y ≡ true → count (runAll S s l) y ≡ count s y + eventSum (λ e. given (eqb (e .tx) y) (weight e)) l
+  unfolding runAll eventSum
+  run-count s [] y c = sym (add-zero _)
+  run-count s (e ∷ l) y c =
+      run-count (step S s e) l y c ∙ ap (λ (z : ℕ). z + eventSum (λ e. given (eqb (e .tx) y) (weight e)) l) (step-count s e y c) ∙ add-assoc _ _ _
+
+settled-counts : (S : Sheet) (s : Book) (x : ℕ) → ((settled S s x) .seen ≡ s .seen) × ((settled S s x) .spoiled ≡ s .spoiled)
+unfolding settled
+settled-counts S s x = by-pick (λ (t : Book). (t .seen ≡ s .seen) × (t .spoiled ≡ s .spoiled)) _ (λ e. (refl, refl)) (λ e. (refl, refl))
 
 pub run-seen : (S : Sheet) (s : Book) (l : List Event) (y : ℕ) → isContract S y ≡ true → (runAll S s l) .seen y ≡ s .seen y + eventSum (isCite y) l
-unfolding runAll eventSum
-run-seen S s [] y c = sym (add-zero _)
-run-seen S s (e ∷ l) y c = run-seen S (step S s e) l y c ∙ ap (λ (z : ℕ). z + eventSum (isCite y) l) (step-seen S s e y c) ∙ add-assoc _ _ _
+unfolding isCite counted
+run-seen S = run-count S (λ s. s .seen) (λ e. 1) (λ s x. settled-counts S s x .0) (λ s e y. put-add (s .seen) (e .tx) y 1)
 
 pub run-spoiled : (S : Sheet) (s : Book) (l : List Event) (y : ℕ) → isContract S y ≡ true → (runAll S s l) .spoiled y ≡ s .spoiled y + eventSum (isFail y) l
-unfolding runAll eventSum
-run-spoiled S s [] y c = sym (add-zero _)
-run-spoiled S s (e ∷ l) y c = run-spoiled S (step S s e) l y c ∙ ap (λ (z : ℕ). z + eventSum (isFail y) l) (step-spoiled S s e y c) ∙ add-assoc _ _ _
+unfolding isFail counted
+run-spoiled S = run-count S (λ s. s .spoiled) (λ e. flip (e .good)) (λ s x. settled-counts S s x .1) (λ s e y. put-add (s .spoiled) (e .tx) y (flip (e .good)))
 
 -- ---- paid only with no part spoiled
 
@@ -183,17 +175,12 @@ counted-clean S s e h k y q l = go (eqb (e .tx) y) refl
         put-add (s .spoiled) (e .tx) y _ ∙ ap (λ (z : ℕ). s .spoiled y + z) (given-false (eqb (e .tx) y) _ w) ∙ add-zero _
         ∙ k y q (omega (arith, l, put-add (s .seen) (e .tx) y 1, given-false (eqb (e .tx) y) 1 w))
 
-both-left : (b c : Bool) → both b c ≡ true → b ≡ true
-unfolding pick
-both-left true c e = refl
-both-left false c e = e
-
 settled-clean : (S : Sheet) (s : Book) (x : ℕ) → Clean S s → Clean S (settled S s x)
 unfolding settled
 settled-clean S s x k =
     by-pick (Clean S) (both (eqb (s .spoiled x) 0) (operated S x (s .registers) .passes))
     (λ b y. by-pick (λ (t : Status). t ≡ paid → s .seen y ≤ parts S y → s .spoiled y ≡ 0) (eqb y x)
-    (λ w q l. ap (s .spoiled) (eqb-true y x w) ∙ eqb-true (s .spoiled x) 0 (both-left _ _ b)) (λ w q l. k y q l))
+    (λ w q l. ap (s .spoiled) (eqb-true y x w) ∙ eqb-true (s .spoiled x) 0 (both-true _ b .0)) (λ w q l. k y q l))
     (λ b y. by-pick (λ (t : Status). t ≡ paid → s .seen y ≤ parts S y → s .spoiled y ≡ 0) (eqb y x)
     (λ w q l. cc) (λ w q l. k y q l))
 
