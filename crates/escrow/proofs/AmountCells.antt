@@ -17,29 +17,24 @@ use Rattle.transactions.specs.Body.{entryIn, transactionOf}
 use Rattle.ordering.specs.Table.{countIn}
 use Rattle.settlement.proofs.StatusCells.{of-open, of-paid, of-returned}
 use Rattle.settlement.specs.Cells.{rowsIn}
-use Rattle.settlement.specs.Contracts.{Status, paid, pending, returned}
+use Rattle.settlement.specs.Contracts.{Status, paid}
 use Rattle.settlement.specs.Settlement.{status}
 use Rattle.settlement.specs.Tables.{statusIn, statusOf}
 use Rattle.settlement.specs.View.{Rows}
-use Rattle.sheets.proofs.SheetCells.{sheet-count, tx-in, tx-past}
+use Rattle.sheets.proofs.SheetCells.{sheet-count, tx-from, tx-past}
 use Rattle.sheets.specs.Parts.{amountOn, home}
 use Rattle.sheets.specs.Sheet.{Sheet, balance, sheetIn, slot, txAt, txCount}
 use Rattle.sums.proofs.LoopLaws.{allTo-none}
-use Rattle.sums.proofs.SeqLaws.{getD-tabulate, length-tabulate}
-use Rattle.sums.proofs.TestLaws.{allTo-ext, given-false, given-true, pick-false, pick-true}
-use Rattle.sums.specs.Seq.{tabulate}
+use Rattle.sums.proofs.SeqLaws.{tabulate-each}
+use Rattle.sums.proofs.TestLaws.{allTo-ext, given-false, given-true, pick-false, pick-same, pick-true}
 use Rattle.sums.specs.Sum.{sumTo}
 use Rattle.sums.specs.Test.{allTo, flip, given, pick}
 use Rattle.sheets.specs.declared.sheet.Sizes.{Sizes}
 
 module _ (all : Bool) (n : ℕ) where
   pub takes-open : n ≡ 0 → true ≡ takes all (statusOf n)
-  unfolding takes pick
-  takes-open h = go all ∙ sym (ap (takes all) (of-open n h))
-    where
-      go : (u : Bool) → true ≡ takes u pending
-      go true = refl
-      go false = refl
+  unfolding takes
+  takes-open h = sym (ap (takes all) (of-open n h) ∙ pick-same all true)
 
   pub takes-paid : (n ≡ 0 → ⊥) → n ≡ 1 → all ≡ takes all (statusOf n)
   unfolding takes pick
@@ -50,12 +45,8 @@ module _ (all : Bool) (n : ℕ) where
       go false = refl
 
   pub takes-none : (n ≡ 0 → ⊥) → (n ≡ 1 → ⊥) → false ≡ takes all (statusOf n)
-  unfolding takes pick
-  takes-none h e = go all ∙ sym (ap (takes all) (of-returned n h e))
-    where
-      go : (u : Bool) → false ≡ takes u returned
-      go true = refl
-      go false = refl
+  unfolding takes
+  takes-none h e = sym (ap (takes all) (of-returned n h e) ∙ pick-same all false)
 
 pub is-paid : (n : ℕ) → n ≡ 1 → isPaid (statusOf n) ≡ true
 is-paid n e = ap isPaid (of-paid n (λ (q : n ≡ 0). omega (arith, q)) e)
@@ -147,18 +138,13 @@ module _ (b : List ℕ) (z : Sizes) (f : ℕ → ℕ) (j x : ℕ) where
   unfolding coveredBy part-of
   covered-none h = sym (ap part-of (tx-past b z x h) ∙ allTo-none _)
 
-  part-listed : (n : ℕ) (e : ℕ → Entry) → part-of (record { kind = 0; debits = tabulate n e; credits = []; operations = [] }) ≡ allTo n (debitGood (sheetIn b z) f e j)
-  unfolding debitGood part-of
-  part-listed n e =
-      ap (λ (c : ℕ). allTo c (λ i. pick (eqb (home (sheetIn b z) (entryOf (tabulate n e) i .account)) j) (leb (entryOf (tabulate n e) i .amount) (f (entryOf (tabulate n e) i .account))) true)) (length-tabulate n e)
-      ∙ allTo-ext n _ _ (λ i l. ap (λ (a : Entry). pick (eqb (home (sheetIn b z) (a .account)) j) (leb (a .amount) (f (a .account))) true) (getD-tabulate n e i noEntry l))
-
   covered-judged : (body list : List ℕ) (n : ℕ) (r : Bool) → x < z .t → body ≡ slot b z x → r ≡ allTo n (debitGood (sheetIn b z) f (entryIn list) j)
       → list ≡ drop 4 body → n ≡ getD body 1 0 → r ≡ coveredBy (sheetIn b z) f j x
-  unfolding coveredBy transactionOf part-of
+  unfolding coveredBy transactionOf part-of debitGood
   covered-judged body list n r h e q el en =
-      q ∙ ap₂ (λ (l : List ℕ) (c : ℕ). allTo c (debitGood (sheetIn b z) f (entryIn l) j)) (el ∙ ap (drop 4) e) (en ∙ ap (λ (l : List ℕ). getD l 1 0) e)
-      ∙ sym (part-listed _ _) ∙ sym (ap part-of (tx-in b z x h))
+      q ∙ ap₂ (λ (l : List ℕ) (c : ℕ). allTo c (debitGood (sheetIn b z) f (entryIn l) j)) el en
+      ∙ sym (tabulate-each noEntry _ _ allTo allTo-ext (λ (a : Entry). pick (eqb (home (sheetIn b z) (a .account)) j) (leb (a .amount) (f (a .account))) true))
+      ∙ ap part-of (tx-from b z x body e h)
 
 module _ (b : List ℕ) (z : Sizes) (cites good view table : List ℕ) (j x : ℕ) where
   pub part-none : z .t ≤ x → true ≡ goodIn b z cites good view table j x

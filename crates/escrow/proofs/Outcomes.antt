@@ -5,14 +5,13 @@ use borrow.Author.Tests.{eq-eqb, eqb-false, eqb-true, ne-eqb}
 use lib.Dec.{eqb}
 use mathlib.Core.Bool.{Bool}
 use mathlib.Core.Logic.{_≢_, _⊎_, inl, inr}
-use mathlib.Core.Path.{_∙_, _≡_, refl, sym}
+use mathlib.Core.Path.{_≡_, refl}
 use native.Mathlib.Nat.{eq-or-lt-of-le}
 use native.Mathlib.Omega.{arith}
 use Rattle.escrow.proofs.AmountsViewOnly.{partGood-same}
 use Rattle.escrow.proofs.Fixpoint.{fixpoint, unique}
 use Rattle.escrow.specs.Outcome.{Citation, History, InLogs, citation, depth, judge, outcome, rowsOf, viewOf}
 use Rattle.ordering.proofs.Prefix.{Ascends}
-use Rattle.settlement.proofs.ViewOnly.{Same}
 use Rattle.sheets.specs.Parts.{hasPart}
 use Rattle.sheets.specs.Sheet.{Sheet, txCount}
 use Rattle.sums.proofs.TestLaws.{by-pick, pick-false, pick-true}
@@ -41,6 +40,14 @@ pub viewOf-other : (H : History) (j p i : ℕ) → i ≢ j → viewOf H j p i �
 unfolding viewOf
 viewOf-other H j p i h = pick-false _ _ _ (ne-eqb i j h)
 
+-- a judgement looks only at the outcomes in the citation's view: what a loop that judges a block's citations one after the other uses
+pub judge-view : (S : Sheet) → 0 < S .m → (H : History) (o o' : Citation → Bool) (c : Citation)
+    → ((j p : ℕ) → j < S .m → p < viewOf H (c .instance) (c .position) j → o (citation j p) ≡ o' (citation j p)) → judge S H o c ≡ judge S H o' c
+unfolding judge rowsOf
+judge-view S some H o o' c h =
+    partGood-same S some (viewOf H (c .instance) (c .position)) (viewOf H (c .instance) (c .position)) (rowsOf H o) (rowsOf H o')
+    (record { places = λ j l. refl; ranks = λ j n l u. refl; cells = λ j p l u. refl; goods = h }) (c .instance) _
+
 module _ (S : Sheet) (H : History) (F : ProperLogs S H) where
   pub stamp : Citation → ℕ
   stamp c = F .arrival (c .instance) (c .position / 32) * 32 + c .position % 32
@@ -65,22 +72,10 @@ module _ (S : Sheet) (H : History) (F : ProperLogs S H) where
       own h (inl q) = rw q (omega arith)
       own h (inr q) = omega (arith, F .after-own j (p' / 32) (p / 32) l q (omega arith))
 
-  rows-same : (o o' : Citation → Bool) (c : Citation) → InLogs S H c
-      → ((x : Citation) → InLogs S H x → stamp x < stamp c → o x ≡ o' x) → Same (S .m) (viewOf H (c .instance) (c .position)) (viewOf H (c .instance) (c .position)) (rowsOf H o) (rowsOf H o')
-  unfolding rowsOf
-  rows-same o o' c w h = record {
-    places = λ j l. refl;
-    ranks = λ j n l u. refl;
-    cells = λ j p l u. refl;
-    goods = λ j p l u. h (citation j p) (l, omega (arith, view-inside (c .instance) (c .position) j (w .0) (w .1) l))
-        (before (c .instance) (c .position) j p (w .0) (w .1) l u);
-  }
-
   module _ (some : 0 < S .m) where
     pub judge-local : (o o' : Citation → Bool) (c : Citation) → InLogs S H c → ((x : Citation) → InLogs S H x → stamp x < stamp c → o x ≡ o' x) → judge S H o c ≡ judge S H o' c
-    unfolding judge
     judge-local o o' c w h =
-        partGood-same S some (viewOf H (c .instance) (c .position)) (viewOf H (c .instance) (c .position)) (rowsOf H o) (rowsOf H o') (rows-same o o' c w h) (c .instance) (H .cell (c .instance) (c .position))
+        judge-view S some H o o' c (λ j p l u. h (citation j p) (l, omega (arith, view-inside (c .instance) (c .position) j (w .0) (w .1) l)) (before (c .instance) (c .position) j p (w .0) (w .1) l u))
 
     stamp-depth : (c : Citation) → InLogs S H c → stamp c ≤ depth S H
     unfolding stamp depth
@@ -94,21 +89,3 @@ module _ (S : Sheet) (H : History) (F : ProperLogs S H) where
     -- and nothing else is: outcomes that a ledger kept as it judged them are these
     pub outcome-only : (o : Citation → Bool) → ((c : Citation) → InLogs S H c → o c ≡ judge S H o c) → (c : Citation) → InLogs S H c → o c ≡ outcome S H c
     outcome-only o h = unique (judge S H) (InLogs S H) stamp judge-local o (outcome S H) h outcome-is
-
-    -- what a loop that judges one citation after the other uses: judged from flags that are right in its view, a citation's flag is right
-    pub judge-from : (o : Citation → Bool) (c : Citation) → InLogs S H c
-        → ((i p : ℕ) → i < S .m → p < viewOf H (c .instance) (c .position) i → o (citation i p) ≡ outcome S H (citation i p))
-        → judge S H o c ≡ outcome S H c
-    unfolding judge rowsOf
-    judge-from o c w h =
-        partGood-same S some (viewOf H (c .instance) (c .position)) (viewOf H (c .instance) (c .position)) (rowsOf H o) (rowsOf H (outcome S H))
-        (record { places = λ j l. refl; ranks = λ j n l u. refl; cells = λ j p l u. refl; goods = λ j p l u. h j p l u }) (c .instance) _
-        ∙ sym (outcome-is c w)
-
--- a judgement looks only at the outcomes in the citation's view: what a loop that judges a block's citations one after the other uses
-pub judge-view : (S : Sheet) → 0 < S .m → (H : History) (o o' : Citation → Bool) (c : Citation)
-    → ((j p : ℕ) → j < S .m → p < viewOf H (c .instance) (c .position) j → o (citation j p) ≡ o' (citation j p)) → judge S H o c ≡ judge S H o' c
-unfolding judge rowsOf
-judge-view S some H o o' c h =
-    partGood-same S some (viewOf H (c .instance) (c .position)) (viewOf H (c .instance) (c .position)) (rowsOf H o) (rowsOf H o')
-    (record { places = λ j l. refl; ranks = λ j n l u. refl; cells = λ j p l u. refl; goods = h }) (c .instance) _
