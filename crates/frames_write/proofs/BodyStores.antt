@@ -6,10 +6,9 @@ use lib.Seq.{drop-length, sets, sets-eq}
 use mathlib.Core.List.{List, _++_, append-nil}
 use mathlib.Core.Path.{_∙_, _≡_, ap, refl}
 use native.Mathlib.Omega.{arith}
-use Rattle.encoding.proofs.Lengths.{length-numbers}
 use Rattle.encoding.specs.Body.{blockBody, cutBytes, fixedBytes, headerBody, numbersBytes}
 use Rattle.fields.proofs.NumberLaws.{length-leBytes}
-use Rattle.fields.proofs.RowLaws.{list-tabulate, rows-store}
+use Rattle.fields.proofs.RowLaws.{length-numbers, list-tabulate, rows-store}
 use Rattle.fields.proofs.StoreLaws.{three-runs}
 use Rattle.fields.specs.Number.{leBytes, storeNumber}
 use Rattle.fields.specs.Rows.{listBytes, rowsTo}
@@ -29,17 +28,11 @@ pub fixed-stores : (l : List ℕ) (b : Block) (count : ℕ)
 unfolding storeNumber leBytes
 fixed-stores l b count = refl
 
-pub numbers-more : (l list : List ℕ) (at k : ℕ)
-    → storeNumber 2 (sets l at (rowsTo k (λ i. leBytes 2 (getD list i 0)))) (at + 2 * k) (getD list k 0) ≡ sets l at (rowsTo (k + 1) (λ i. leBytes 2 (getD list i 0)))
+-- a loop stores one number of w bytes more
+pub numbers-more : (w : ℕ) (l list : List ℕ) (at k : ℕ) {place : ℕ} {old new : List ℕ} → place ≡ at + w * k → old ≡ sets l at (rowsTo k (λ i. leBytes w (getD list i 0)))
+    → new ≡ storeNumber w old place (getD list k 0) → new ≡ sets l at (rowsTo (k + 1) (λ i. leBytes w (getD list i 0)))
 unfolding storeNumber
-numbers-more l list at k = rows-store 2 (λ i. leBytes 2 (getD list i 0)) (λ i. length-leBytes 2 (getD list i 0)) l at k
-
-pub balances-more : (l list : List ℕ) (k : ℕ)
-    → storeNumber 8 (sets l 0 (rowsTo k (λ i. leBytes 8 (getD list i 0)))) (8 * k) (getD list k 0) ≡ sets l 0 (rowsTo (k + 1) (λ i. leBytes 8 (getD list i 0)))
-unfolding storeNumber
-balances-more l list k =
-    let zero : 0 + 8 * k ≡ 8 * k = omega arith in
-    rw zero at (rows-store 8 (λ i. leBytes 8 (getD list i 0)) (λ i. length-leBytes 8 (getD list i 0)) l 0 k)
+numbers-more w l list at k p e q = q ∙ rw (p, e) (rows-store w (λ i. leBytes w (getD list i 0)) (λ i. length-leBytes w (getD list i 0)) l at k)
 
 pub block-stores : (l : List ℕ) (m : ℕ) (b : Block) (cites : List ℕ)
     → sets (sets (sets l 0 (fixedBytes b (length cites))) 10 (cutBytes m (b .cut))) (10 + 2 * m) (numbersBytes cites) ≡ sets l 0 (blockBody m b cites)

@@ -1,15 +1,14 @@
-use Prim.Native.Nat.{_*_, _-_, _≤_, ℕ}
+use Prim.Native.Nat.{_-_, _≤_}
 use borrow.Author.Needs.{needs}
 use lib.ListN.{getD, length}
 use lib.Seq.{length-sets, sets}
-use mathlib.Core.List.{List}
 use mathlib.Core.Path.{_∙_, _≡_, ap, refl}
 use native.Mathlib.Omega.{arith}
 use Rattle.encoding.specs.Body.{balancesBody}
 use Rattle.fields.proofs.RowLaws.{rows-none}
-use Rattle.fields.specs.Number.{leBytes, storeNumber}
+use Rattle.fields.specs.Number.{leBytes}
 use Rattle.fields.specs.Rows.{listBytes, rowsTo}
-use Rattle.frames_write.proofs.BodyStores.{balances-more}
+use Rattle.frames_write.proofs.BodyStores.{numbers-more}
 use Rattle.frames_write.proofs.lists.put_balances.Statement.{statement}
 use Rattle.frames_write.proofs.lists.put_balances.Tie as tie
 
@@ -23,7 +22,7 @@ loop-holds : tie.Need-loop-holds Inv-loop μ-loop
 loop-holds c = (search needs, rw rows-none refl)
 
 loop-again : tie.Need-loop-again Inv-loop μ-loop
-loop-again c = (omega arith, c .before .before .put-u64 .ensures ∙ ap (λ (o : List ℕ). storeNumber 8 o (8 * c .before .before .before .before .before .before .loop .k) (getD (c .before .before .before .before .before .before .before .before .before .args .list .now) (c .before .before .before .before .before .before .loop .k) 0)) (c .before .before .before .before .before .before .loop .inv .1) ∙ balances-more (c .before .before .before .before .before .before .before .before .before .args .out .now) (c .before .before .before .before .before .before .before .before .before .args .list .now) (c .before .before .before .before .before .before .loop .k))
+loop-again c = (omega arith, numbers-more 8 (c .before .before .before .before .before .before .before .before .before .args .out .now) (c .before .before .before .before .before .before .before .before .before .args .list .now) 0 (c .before .before .before .before .before .before .loop .k) (omega arith) (c .before .before .before .before .before .before .loop .inv .1) (c .before .before .put-u64 .ensures))
 
 same-length : tie.Need-same-length Inv-loop μ-loop
 same-length c = ap length (c .before .loop .inv .1) ∙ simp length-sets
