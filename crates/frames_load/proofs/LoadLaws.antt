@@ -7,7 +7,6 @@ use lib.ListN.{drop, length, take}
 use lib.Seq.{sets}
 use mathlib.Core.Bool.{Bool, false, true}
 use mathlib.Core.List.{List}
-use mathlib.Core.Logic.{inl, inr}
 use mathlib.Core.Path.{_∙_, _≡_, ap, refl, sym}
 use native.Mathlib.Omega.{arith}
 use Rattle.fields.proofs.NumberLaws.{le-front}
@@ -15,7 +14,7 @@ use Rattle.fields.proofs.StoreLaws.{number-before, part-at, part-before, take-f
 use Rattle.fields.specs.Number.{le}
 use Rattle.frames.proofs.BalancesLaws.{balances-checked, balances-each}
 use Rattle.frames.proofs.HeaderLaws.{header-checked}
-use Rattle.frames.proofs.StepLaws.{after-balances, after-block, after-header, after-transaction, begun, differ, due-three, judged-balances, judged-header, judged-transaction, took-judged}
+use Rattle.frames.proofs.StepLaws.{after-balances, after-block, after-header, after-transaction, begun, due-three, judged-balances, judged-header, judged-transaction, took-judged}
 use Rattle.frames.specs.Balances.{balancesOf, balancesOk}
 use Rattle.frames.specs.Frame.{bodyAt, bodyOf, frameAt}
 use Rattle.frames.specs.Header.{headerOf, headerOk}
@@ -50,11 +49,11 @@ module _ (s : Loading) (run : List ℕ) (at : ℕ) (next : Loading) (end : ℕ) 
 
   pub took-balances : kindDue s ≡ 2 → (length B ≡ 8 * s .a) × (balancesOk (balancesOf (s .a) B) ≡ true)
   took-balances e =
-      balances-checked B at (s .a) (sym (judged-balances s (kindDue s) B at (λ w. differ 1 2 (inl (omega arith)) (sym w ∙ e)) e) ∙ took-judged s run at next end q .0)
+      balances-checked B at (s .a) (sym (judged-balances s (kindDue s) B at (λ (w : kindDue s ≡ 1). omega arith) e) ∙ took-judged s run at next end q .0)
 
   took-check : kindDue s ≡ 3 → checkTransaction B at (s .a) (s .g) ≡ Fine
   took-check e =
-      sym (judged-transaction s (kindDue s) B at (λ w. differ 1 3 (inl (omega arith)) (sym w ∙ e)) (λ w. differ 2 3 (inl (omega arith)) (sym w ∙ e)) e) ∙ took-judged s run at next end q .0
+      sym (judged-transaction s (kindDue s) B at (λ (w : kindDue s ≡ 1). omega arith) (λ (w : kindDue s ≡ 2). omega arith) e) ∙ took-judged s run at next end q .0
 
   pub took-transaction : kindDue s ≡ 3 → BodyFine B
   took-transaction e = transaction-fine B at (s .a) (s .g) (took-check e)
@@ -72,7 +71,7 @@ module _ (s : Loading) (run : List ℕ) (at : ℕ) (next : Loading) (end : ℕ) 
         let i = slotFrom (s .a) (s .loaded) in
         let fits : i + length B ≤ length cells = omega arith in
         let cells′ = sets cells i B in
-        let kept : bodyStored s B cells ≡ cells′ = passed _ (ne-eqb _ _ (λ w. differ 2 3 (inl (omega arith)) (sym w ∙ e))) (took _ (eq-eqb _ _ e) refl) in
+        let kept : bodyStored s B cells ≡ cells′ = passed _ (ne-eqb _ _ (λ (w : kindDue s ≡ 2). omega arith)) (took _ (eq-eqb _ _ e) refl) in
         let after = took-judged s run at next end q .1 ∙ after-transaction s (kindDue s) B e l in
         let balances = tabulate-ext (s .a) (balanceIn cells′) (balanceIn cells)
         (λ k lt. ap (λ (v : ℕ). min v 1099511627776) (number-before cells i B fits 8 (8 * k) (omega arith))) in
@@ -112,10 +111,10 @@ module _ (s : Loading) (run : List ℕ) (at : ℕ) (next : Loading) (end : ℕ) 
 
     stored-adds : {after : List ℕ} → after ≡ bodyStored s B cells → Adds s next B cells after
     stored-adds p = record {
-      header = λ e. (took-judged s run at next end q .1 ∙ after-header s (kindDue s) B e, p ∙ load-other (λ w. differ 1 2 (inl (omega arith)) (sym e ∙ w)) (λ w. differ 1 3 (inl (omega arith)) (sym e ∙ w)));
+      header = λ e. (took-judged s run at next end q .1 ∙ after-header s (kindDue s) B e, p ∙ load-other (λ (w : kindDue s ≡ 2). omega arith) (λ (w : kindDue s ≡ 3). omega arith));
       balances = λ e. ap (sheetSoFar next) p ∙ load-balances e;
       transaction = λ e. ap (sheetSoFar next) p ∙ load-transaction e;
-      block = λ e. (took-judged s run at next end q .1 ∙ after-block s (kindDue s) B e, p ∙ load-other (λ w. differ 4 2 (inr (omega arith)) (sym e ∙ w)) (λ w. differ 4 3 (inr (omega arith)) (sym e ∙ w)));
+      block = λ e. (took-judged s run at next end q .1 ∙ after-block s (kindDue s) B e, p ∙ load-other (λ (w : kindDue s ≡ 2). omega arith) (λ (w : kindDue s ≡ 3). omega arith));
     }
 
 -- which answer, and which cells
