@@ -10,11 +10,11 @@ use mathlib.Core.List.{List, [], _++_, _∷_}
 use mathlib.Core.Path.{_∙_, _≡_, ap, refl, sym}
 use native.Mathlib.Numerals.{add-one}
 use native.Mathlib.Omega.{arith}
-use Rattle.encoding.proofs.Lengths.{entry-long, length-entries, length-transaction, operation-long}
+use Rattle.encoding.proofs.Lengths.{entry-long, length-transaction, operation-long}
 use Rattle.encoding.specs.Body.{entriesBytes, entryBytes, operationBytes, operationsBytes, transactionBody}
 use Rattle.encoding.specs.Fits.{TransactionFits}
 use Rattle.fields.proofs.NumberLaws.{length-leBytes}
-use Rattle.fields.proofs.RowLaws.{rows-store}
+use Rattle.fields.proofs.RowLaws.{length-list, rows-store}
 use Rattle.fields.proofs.StoreLaws.{sets-then, three-runs}
 use Rattle.fields.specs.Number.{leBytes, storeNumber}
 use Rattle.fields.specs.Rows.{rowsTo}
@@ -29,23 +29,25 @@ entry-row : (l : List ℕ) (i x y : ℕ) → storeNumber 4 (storeNumber 2 l i x)
 unfolding storeNumber
 entry-row l i x y = sets-then (leBytes 2 x) (leBytes 4 y) l i (i + 2) (rw length-leBytes refl)
 
-pub entries-more : (l accounts amounts : List ℕ) (at k : ℕ)
-    → storeNumber 4 (storeNumber 2 (sets l at (rowsTo k (λ i. entryBytes (entryWith accounts amounts i)))) (at + 6 * k) (getD accounts k 0)) (at + 6 * k + 2) (getD amounts k 0)
-    ≡ sets l at (rowsTo (k + 1) (λ i. entryBytes (entryWith accounts amounts i)))
-entries-more l accounts amounts at k =
-    entry-row (sets l at (rowsTo k (λ i. entryBytes (entryWith accounts amounts i)))) (at + 6 * k) (getD accounts k 0) (getD amounts k 0)
-    ∙ rows-store 6 (λ i. entryBytes (entryWith accounts amounts i)) (λ i. entry-long (entryWith accounts amounts i)) l at k
+-- a loop stores one entry more
+pub entries-more : (l accounts amounts : List ℕ) (at k : ℕ) {old mid new : List ℕ} → old ≡ sets l at (rowsTo k (λ i. entryBytes (entryWith accounts amounts i)))
+    → mid ≡ storeNumber 2 old (at + 6 * k) (getD accounts k 0) → new ≡ storeNumber 4 mid (at + 6 * k + 2) (getD amounts k 0)
+    → new ≡ sets l at (rowsTo (k + 1) (λ i. entryBytes (entryWith accounts amounts i)))
+entries-more l accounts amounts at k {old = old} e p q =
+    rw (q, p) (entry-row old (at + 6 * k) (getD accounts k 0) (getD amounts k 0)
+    ∙ rw e (rows-store 6 (λ i. entryBytes (entryWith accounts amounts i)) (λ i. entry-long (entryWith accounts amounts i)) l at k))
 
 operation-row : (l : List ℕ) (i c r v : ℕ) → storeNumber 4 (set (set l i c) (i + 1) r) (i + 2) v ≡ sets l i (c ∷ r ∷ leBytes 4 v)
 unfolding storeNumber
 operation-row l i c r v = rw (add-one i) (sets-then (c ∷ r ∷ []) (leBytes 4 v) l i (i + 2) refl)
 
-pub operations-more : (l codes registers values : List ℕ) (at k : ℕ)
-    → storeNumber 4 (set (set (sets l at (rowsTo k (λ i. operationBytes (operationWith codes registers values i)))) (at + 6 * k) (getD codes k 0)) (at + 6 * k + 1) (getD registers k 0)) (at + 6 * k + 2) (getD values k 0)
-    ≡ sets l at (rowsTo (k + 1) (λ i. operationBytes (operationWith codes registers values i)))
-operations-more l codes registers values at k =
-    operation-row (sets l at (rowsTo k (λ i. operationBytes (operationWith codes registers values i)))) (at + 6 * k) (getD codes k 0) (getD registers k 0) (getD values k 0)
-    ∙ rows-store 6 (λ i. operationBytes (operationWith codes registers values i)) (λ i. operation-long (operationWith codes registers values i)) l at k
+-- and one operation more
+pub operations-more : (l codes registers values : List ℕ) (at k : ℕ) {old one two new : List ℕ} → old ≡ sets l at (rowsTo k (λ i. operationBytes (operationWith codes registers values i)))
+    → one ≡ set old (at + 6 * k) (getD codes k 0) → two ≡ set one (at + 6 * k + 1) (getD registers k 0) → new ≡ storeNumber 4 two (at + 6 * k + 2) (getD values k 0)
+    → new ≡ sets l at (rowsTo (k + 1) (λ i. operationBytes (operationWith codes registers values i)))
+operations-more l codes registers values at k {old = old} e p q r =
+    rw (r, q, p) (operation-row old (at + 6 * k) (getD codes k 0) (getD registers k 0) (getD values k 0)
+    ∙ rw e (rows-store 6 (λ i. operationBytes (operationWith codes registers values i)) (λ i. operation-long (operationWith codes registers values i)) l at k))
 
 pub agree-is : (n : Counts) (payers debits payees credits codes registers values : ℕ) → countsAgree n payers debits payees credits codes registers values ≡ true
     → Agree n payers debits payees credits codes registers values
@@ -82,8 +84,8 @@ module _ (n : Counts) (payers debits payees credits codes registers values : Lis
       let D = entriesBytes (entriesWith payers debits) in
       let C = entriesBytes (entriesWith payees credits) in
       let O = operationsBytes (operationsWith codes registers values) in
-      let d : length D ≡ 6 * length payers = simp (length-entries, length-tabulate) refl in
-      let k : length C ≡ 6 * length payees = simp (length-entries, length-tabulate) refl in
+      let d : length D ≡ 6 * length payers = simp (length-list 6 entryBytes noEntry entry-long, length-tabulate) refl in
+      let k : length C ≡ 6 * length payees = simp (length-list 6 entryBytes noEntry entry-long, length-tabulate) refl in
       let first : second ≡ length (H ++ D) = omega arith in
       let dn : n .debits ≡ length (entriesWith payers debits) = sym (agree .payers-long) ∙ sym (length-tabulate (length payers) (entryWith payers debits)) in
       let cn : n .credits ≡ length (entriesWith payees credits) = sym (agree .payees-long) ∙ sym (length-tabulate (length payees) (entryWith payees credits)) in

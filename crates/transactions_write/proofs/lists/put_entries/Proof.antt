@@ -1,13 +1,11 @@
-use Prim.Native.Nat.{_*_, _+_, _-_, _≤_, ℕ}
+use Prim.Native.Nat.{_-_, _≤_}
 use borrow.Author.Needs.{needs}
-use lib.ListN.{getD, length}
+use lib.ListN.{length}
 use lib.Seq.{length-sets, sets}
-use mathlib.Core.List.{List}
 use mathlib.Core.Path.{_∙_, _≡_, ap, refl}
 use native.Mathlib.Omega.{arith}
 use Rattle.encoding.specs.Body.{entryBytes}
 use Rattle.fields.proofs.RowLaws.{list-tabulate, rows-none}
-use Rattle.fields.specs.Number.{storeNumber}
 use Rattle.fields.specs.Rows.{rowsTo}
 use Rattle.transactions.specs.Check.{amounts}
 use Rattle.transactions.specs.Content.{noEntry}
@@ -26,7 +24,10 @@ loop-holds : tie.Need-loop-holds Inv-loop μ-loop
 loop-holds c = (search needs, rw rows-none refl)
 
 loop-again : tie.Need-loop-again Inv-loop μ-loop
-loop-again c = (omega arith, c .before .before .put-u32 .ensures ∙ ap (λ (o : List ℕ). storeNumber 4 o (c .before .before .before .before .before .before .before .before .before .before .before .before .before .before .before .args .at + 6 * c .before .before .before .before .before .before .before .before .before .before .before .loop .k + 2) (getD (c .before .before .before .before .before .before .before .before .before .before .before .before .before .before .before .args .amounts .now) (c .before .before .before .before .before .before .before .before .before .before .before .loop .k) 0)) (c .before .before .before .before .before .before .before .put-u16 .ensures ∙ ap (λ (o : List ℕ). storeNumber 2 o (c .before .before .before .before .before .before .before .before .before .before .before .before .before .before .before .args .at + 6 * c .before .before .before .before .before .before .before .before .before .before .before .loop .k) (getD (c .before .before .before .before .before .before .before .before .before .before .before .before .before .before .before .args .accounts .now) (c .before .before .before .before .before .before .before .before .before .before .before .loop .k) 0)) (c .before .before .before .before .before .before .before .before .before .before .before .loop .inv .1)) ∙ entries-more (c .before .before .before .before .before .before .before .before .before .before .before .before .before .before .before .args .out .now) (c .before .before .before .before .before .before .before .before .before .before .before .before .before .before .before .args .accounts .now) (c .before .before .before .before .before .before .before .before .before .before .before .before .before .before .before .args .amounts .now) (c .before .before .before .before .before .before .before .before .before .before .before .before .before .before .before .args .at) (c .before .before .before .before .before .before .before .before .before .before .before .loop .k))
+loop-again c =
+    let a = c .before .before .before .before .before .before .before .before .before .before .before .before .before .before .before .args in
+    let turn = c .before .before .before .before .before .before .before .before .before .before .before .loop in
+    (omega arith, entries-more (a .out .now) (a .accounts .now) (a .amounts .now) (a .at) (turn .k) (turn .inv .1) (c .before .before .before .before .before .before .before .put-u16 .ensures) (c .before .before .put-u32 .ensures))
 
 same-length : tie.Need-same-length Inv-loop μ-loop
 same-length c = ap length (c .before .loop .inv .1) ∙ simp length-sets

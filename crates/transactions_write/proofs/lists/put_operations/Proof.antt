@@ -1,13 +1,11 @@
-use Prim.Native.Nat.{_*_, _+_, _-_, _≤_, ℕ}
+use Prim.Native.Nat.{_-_, _≤_}
 use borrow.Author.Needs.{needs}
-use lib.ListN.{getD, length, set}
+use lib.ListN.{length}
 use lib.Seq.{length-sets, sets}
-use mathlib.Core.List.{List}
 use mathlib.Core.Path.{_∙_, _≡_, ap, refl}
 use native.Mathlib.Omega.{arith}
 use Rattle.encoding.specs.Body.{operationBytes}
 use Rattle.fields.proofs.RowLaws.{list-tabulate, rows-none}
-use Rattle.fields.specs.Number.{storeNumber}
 use Rattle.fields.specs.Rows.{rowsTo}
 use Rattle.transactions.specs.Content.{noOperation}
 use Rattle.transactions_write.proofs.BodyStores.{operations-more}
@@ -25,7 +23,10 @@ loop-holds : tie.Need-loop-holds Inv-loop μ-loop
 loop-holds c = (search needs, rw rows-none refl)
 
 loop-again : tie.Need-loop-again Inv-loop μ-loop
-loop-again c = (omega arith, c .before .before .put-u32 .ensures ∙ ap (λ (o : List ℕ). storeNumber 4 o (c .before .before .before .before .before .before .before .before .before .before .before .before .before .before .before .before .before .before .before .before .before .args .at + 6 * c .before .before .before .before .before .before .before .before .before .before .before .before .before .before .before .before .loop .k + 2) (getD (c .before .before .before .before .before .before .before .before .before .before .before .before .before .before .before .before .before .before .before .before .before .args .values .now) (c .before .before .before .before .before .before .before .before .before .before .before .before .before .before .before .before .loop .k) 0)) (c .before .before .before .before .before .before .before .put-byte2 .ensures ∙ ap (λ (o : List ℕ). set o (c .before .before .before .before .before .before .before .before .before .before .before .before .before .before .before .before .before .before .before .before .before .args .at + 6 * c .before .before .before .before .before .before .before .before .before .before .before .before .before .before .before .before .loop .k + 1) (getD (c .before .before .before .before .before .before .before .before .before .before .before .before .before .before .before .before .before .before .before .before .before .args .registers .now) (c .before .before .before .before .before .before .before .before .before .before .before .before .before .before .before .before .loop .k) 0)) (c .before .before .before .before .before .before .before .before .before .before .before .before .put-byte .ensures ∙ ap (λ (o : List ℕ). set o (c .before .before .before .before .before .before .before .before .before .before .before .before .before .before .before .before .before .before .before .before .before .args .at + 6 * c .before .before .before .before .before .before .before .before .before .before .before .before .before .before .before .before .loop .k) (getD (c .before .before .before .before .before .before .before .before .before .before .before .before .before .before .before .before .before .before .before .before .before .args .codes .now) (c .before .before .before .before .before .before .before .before .before .before .before .before .before .before .before .before .loop .k) 0)) (c .before .before .before .before .before .before .before .before .before .before .before .before .before .before .before .before .loop .inv .1))) ∙ operations-more (c .before .before .before .before .before .before .before .before .before .before .before .before .before .before .before .before .before .before .before .before .before .args .out .now) (c .before .before .before .before .before .before .before .before .before .before .before .before .before .before .before .before .before .before .before .before .before .args .codes .now) (c .before .before .before .before .before .before .before .before .before .before .before .before .before .before .before .before .before .before .before .before .before .args .registers .now) (c .before .before .before .before .before .before .before .before .before .before .before .before .before .before .before .before .before .before .before .before .before .args .values .now) (c .before .before .before .before .before .before .before .before .before .before .before .before .before .before .before .before .before .before .before .before .before .args .at) (c .before .before .before .before .before .before .before .before .before .before .before .before .before .before .before .before .loop .k))
+loop-again c =
+    let a = c .before .before .before .before .before .before .before .before .before .before .before .before .before .before .before .before .before .before .before .before .before .args in
+    let turn = c .before .before .before .before .before .before .before .before .before .before .before .before .before .before .before .before .loop in
+    (omega arith, operations-more (a .out .now) (a .codes .now) (a .registers .now) (a .values .now) (a .at) (turn .k) (turn .inv .1) (c .before .before .before .before .before .before .before .before .before .before .before .before .put-byte .ensures) (c .before .before .before .before .before .before .before .put-byte2 .ensures) (c .before .before .put-u32 .ensures))
 
 same-length : tie.Need-same-length Inv-loop μ-loop
 same-length c = ap length (c .before .loop .inv .1) ∙ simp length-sets
