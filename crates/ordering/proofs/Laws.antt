@@ -1,21 +1,18 @@
 -- Laws of the bar and of the log, as a loop uses them.
 -- Assumes nothing.
-use Prim.Native.Nat.{_+_, _-_, _<_, _≤_, min, suc, zero, ℕ}
+use Prim.Native.Nat.{_%_, _+_, _-_, _/_, _<_, _≤_, suc, zero, ℕ}
 use borrow.Author.Tests.{eq-eqb, le-ltb, lt-ltb, ne-eqb}
 use lib.Dec.{eqb, ltb}
-use lib.ListN.{getD, length, set}
-use lib.Seq.{getD-set-other, getD-set-same}
 use mathlib.Core.Bool.{Bool, false, true}
-use mathlib.Core.List.{List, [], _++_, _∷_, append-nil}
+use mathlib.Core.List.{List, [], _++_, _∷_, append-nil, map}
 use mathlib.Core.Path.{_∙_, _≡_, ap, ap₂, refl, sym}
-use native.Mathlib.Decide.{decLe, ℕ-discrete}
-use native.Mathlib.Nat.{le-refl}
+use native.Mathlib.Decide.{decLt, ℕ-discrete}
 use native.Mathlib.Numerals.{add-one}
 use native.Mathlib.Omega.{arith}
-use Rattle.ordering.specs.Order.{ceilingOf, entryAt, keyOf, logTo, seek}
+use Rattle.ordering.specs.Order.{ceilingOf, entryAt, keyOf, logTo, refOf, seek}
 use Rattle.ordering.specs.Table.{nextOf}
 use Rattle.sums.proofs.TestLaws.{pick-false, pick-true}
-use Rattle.sums.specs.Seq.{only}
+use Rattle.sums.specs.Seq.{only, onlyIf}
 
 -- ---- what an instance allows, and its next key
 pub ceiling-some : (R : ℕ → ℕ → ℕ) (F : ℕ → ℕ) (j n r k : ℕ) → n ≡ F j → 0 < n → r ≡ R j (n - 1) → k ≡ keyOf r j → k + 16 ≡ ceilingOf R F j
@@ -78,3 +75,14 @@ seek-one f r (suc n) p l e u = go (λ (q : p < n). seek-one f r n p q e (λ k a.
     go ih (no q) =
         let t : eqb (f n) r ≡ false = ne-eqb (f n) r (λ b. let w = u n (omega arith) b in q (sym w)) in
         ap₂ (λ (l : List ℕ) (b : Bool). l ++ only b n) (ih (omega arith)) t
+
+-- no block has the key x
+pub entry-none : (m : ℕ) (R : ℕ → ℕ → ℕ) (F : ℕ → ℕ) (x : ℕ) → ((n : ℕ) → x % 16 < m → n < F (x % 16) → keyOf (R (x % 16) n) (x % 16) ≡ x → ⊥) → entryAt m R F x ≡ []
+unfolding entryAt
+entry-none m R F x h = go (decLt (x % 16) m)
+  where
+    go : Dec (x % 16 < m) → onlyIf (ltb (x % 16) m) (map (refOf (x % 16)) (seek (R (x % 16)) (x / 16) (F (x % 16)))) ≡ []
+    go (yes l) =
+        let e : seek (R (x % 16)) (x / 16) (F (x % 16)) ≡ [] = seek-none (R (x % 16)) (x / 16) (F (x % 16)) (λ n a b. h n l a (omega arith)) in
+        ap₂ (λ (t : Bool) (s : List ℕ). onlyIf t (map (refOf (x % 16)) s)) (lt-ltb (x % 16) m l) e
+    go (no l) = ap (λ (t : Bool). onlyIf t (map (refOf (x % 16)) (seek (R (x % 16)) (x / 16) (F (x % 16))))) (le-ltb (x % 16) m (omega arith))

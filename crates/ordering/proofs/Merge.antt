@@ -1,8 +1,7 @@
 -- One turn of the merge: the least next key is the next key of the log.
 -- Assumes nothing.
 use Prim.Native.Nat.{_%_, _*_, _+_, _-_, _/_, _<_, _≤_, suc, zero, ℕ}
-use borrow.Author.Tests.{le-ltb, lt-ltb}
-use lib.Dec.{ltb}
+use borrow.Author.Tests.{lt-ltb}
 use lib.ListN.{List·getD-eq-default, length, length-append, length-map, length-set, replicate, set}
 use lib.Seq.{getD-set-other, getD-set-same}
 use mathlib.Core.Bool.{Bool}
@@ -11,7 +10,8 @@ use mathlib.Core.Path.{_∙_, _≡_, ap, ap₂, refl, subst, sym}
 use native.Mathlib.Decide.{decLt, ℕ-discrete}
 use native.Mathlib.Nat.{add-zero}
 use native.Mathlib.Omega.{arith}
-use Rattle.ordering.proofs.Laws.{log-more, log-quiet, next-none, next-some, seek-none, seek-one}
+use Rattle.ordering.proofs.Laws.{entry-none, log-more, log-quiet, next-none, next-some, seek-one}
+use Rattle.ordering.proofs.Prefix.{Ascends, ascends-le, ascends-place}
 use Rattle.ordering.specs.Order.{Ref, barOf, entryAt, globalLog, keyOf, logTo, refOf, seek}
 use Rattle.ordering.specs.Table.{Ordered, blockId, countIn, nextOf}
 use Rattle.sums.proofs.SeqLaws.{fill-more, map-append}
@@ -33,45 +33,18 @@ module _ (m : ℕ) (R : ℕ → ℕ → ℕ) (F : ℕ → ℕ) (ord : Ordered m 
       let e : p + 1 + suc d ≡ p + 1 + d + 1 = omega arith in
       omega (arith, ap (R j) e)
 
-  pub rising-to : (j p q : ℕ) → j < m → p < q → q < F j → R j p < R j q
-  rising-to j p q l h g =
+  rising : (j : ℕ) → j < m → Ascends (R j) (F j)
+  rising j l p q h g =
       let e : q ≡ p + 1 + (q - (p + 1)) = omega arith in
       let w = rises j p (q - (p + 1)) l (omega arith) in
       omega (arith, ap (R j) e)
-
-  pub rising-le : (j p q : ℕ) → j < m → p ≤ q → q < F j → R j p ≤ R j q
-  rising-le j p q l h g = go (ℕ-discrete p q)
-    where
-      go : Dec (p ≡ q) → R j p ≤ R j q
-      go (yes e) = omega (arith, ap (R j) e)
-      go (no e) = let w = rising-to j p q l (omega arith) g in omega arith
-
-  -- the same rank is the same place
-  rank-place : (j p q : ℕ) → j < m → p < F j → q < F j → R j p ≡ R j q → p ≡ q
-  rank-place j p q l hp hq e = go (decLt p q) (decLt q p)
-    where
-      go : Dec (p < q) → Dec (q < p) → p ≡ q
-      go (yes a) b = absurd (let w = rising-to j p q l a hq in omega arith)
-      go (no a) (yes b) = absurd (let w = rising-to j q p l b hp in omega arith)
-      go (no a) (no b) = omega arith
-
-  -- no block has the key x
-  entry-none : (x : ℕ) → ((n : ℕ) → x % 16 < m → n < F (x % 16) → keyOf (R (x % 16) n) (x % 16) ≡ x → ⊥) → entryAt m R F x ≡ []
-  unfolding entryAt
-  entry-none x h = go (decLt (x % 16) m)
-    where
-      go : Dec (x % 16 < m) → onlyIf (ltb (x % 16) m) (map (refOf (x % 16)) (seek (R (x % 16)) (x / 16) (F (x % 16)))) ≡ []
-      go (yes l) =
-          let e : seek (R (x % 16)) (x / 16) (F (x % 16)) ≡ [] = seek-none (R (x % 16)) (x / 16) (F (x % 16)) (λ n a b. h n l a (omega arith)) in
-          ap₂ (λ (t : Bool) (s : List ℕ). onlyIf t (map (refOf (x % 16)) s)) (lt-ltb (x % 16) m l) e
-      go (no l) = ap (λ (t : Bool). onlyIf t (map (refOf (x % 16)) (seek (R (x % 16)) (x / 16) (F (x % 16))))) (le-ltb (x % 16) m (omega arith))
 
   -- the key of a block of the view has that block alone
   entry-one : (x n : ℕ) → x % 16 < m → n < F (x % 16) → x ≡ keyOf (R (x % 16) n) (x % 16) → entryAt m R F x ≡ refOf (x % 16) n ∷ []
   unfolding entryAt
   entry-one x n l h e =
       let r : R (x % 16) n ≡ x / 16 = omega arith in
-      let s : seek (R (x % 16)) (x / 16) (F (x % 16)) ≡ n ∷ [] = seek-one (R (x % 16)) (x / 16) (F (x % 16)) n h r (λ k a b. rank-place (x % 16) k n l a h (b ∙ sym r)) in
+      let s : seek (R (x % 16)) (x / 16) (F (x % 16)) ≡ n ∷ [] = seek-one (R (x % 16)) (x / 16) (F (x % 16)) n h r (λ k a b. ascends-place (R (x % 16)) (F (x % 16)) (rising (x % 16) l) k n a h (b ∙ sym r)) in
       ap₂ (λ (t : Bool) (s : List ℕ). onlyIf t (map (refOf (x % 16)) s)) (lt-ltb (x % 16) m l) s
 
   module _ (b : ℕ) where
@@ -89,12 +62,12 @@ module _ (m : ℕ) (R : ℕ → ℕ → ℕ) (F : ℕ → ℕ) (ord : Ordered m 
 
     -- between what the cursors passed and the least next key there is no block
     pub gap : (C : ℕ → ℕ) (lo : ℕ) → Below m R C lo → (x : ℕ) → lo ≤ x → x < leastFrom b (nextOf R F b C) m → entryAt m R F x ≡ []
-    gap C lo below x hl hx = entry-none x (λ n l h e. go n l h e (decLt n (C (x % 16))))
+    gap C lo below x hl hx = entry-none m R F x (λ n l h e. go n l h e (decLt n (C (x % 16))))
       where
         go : (n : ℕ) → x % 16 < m → n < F (x % 16) → keyOf (R (x % 16) n) (x % 16) ≡ x → Dec (n < C (x % 16)) → ⊥
         go n l h e (yes a) = let w = below (x % 16) n l a in omega arith
         go n l h e (no a) =
-            let w = rising-le (x % 16) (C (x % 16)) n l (omega arith) h in
+            let w = ascends-le (R (x % 16)) (F (x % 16)) (rising (x % 16) l) (C (x % 16)) n (omega arith) h in
             let v = next-is C (x % 16) (omega arith) in
             let u = least-le b (nextOf R F b C) m (x % 16) l in
             omega arith

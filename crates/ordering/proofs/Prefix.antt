@@ -20,6 +20,13 @@ use Rattle.sums.proofs.LeastLaws.{le-least, least-found, least-le, least-le-sta
 abbrev pub Ascends : (ℕ → ℕ) → ℕ → Type 0
 Ascends rank b = (n n' : ℕ) → n < n' → n' < b → rank n < rank n'
 
+pub ascends-le : (f : ℕ → ℕ) (b : ℕ) → Ascends f b → (p q : ℕ) → p ≤ q → q < b → f p ≤ f q
+ascends-le f b up p q h l = elim (decLt p q) [ yes s ↦ omega (arith, up p q s l) | no s ↦ omega (arith, ap f (let e : p ≡ q = omega arith in e)) ]
+
+-- the same rank is the same place
+pub ascends-place : (f : ℕ → ℕ) (b : ℕ) → Ascends f b → (p q : ℕ) → p < b → q < b → f p ≡ f q → p ≡ q
+ascends-place f b up p q h l e = elim (decLt p q) [ yes s ↦ absurd (omega (arith, up p q s l)) | no s ↦ elim (decLt q p) [ yes v ↦ absurd (omega (arith, up q p v h)) | no v ↦ omega arith ] ]
+
 -- ---- the bar, as the document states it
 
 module _ (m : ℕ) (R : ℕ → ℕ → ℕ) (F : ℕ → ℕ) where
@@ -107,15 +114,11 @@ module _ (m : ℕ) (R : ℕ → ℕ → ℕ) (F G : ℕ → ℕ) (some : 0 < m) 
   pub bar-grows : barOf m R F ≤ barOf m R G
   bar-grows = le-least (ceilingOf R G 0) (ceilingOf R G) m (barOf m R F) (each 0 some) each
     where
-      last : (j : ℕ) → j < m → 0 < F j → Dec (F j < G j) → R j (F j - 1) ≤ R j (G j - 1)
-      last j l p (yes h) = let w = asc j l (F j - 1) (G j - 1) (omega arith) (omega arith) in omega arith
-      last j l p (no h) = let e : F j ≡ G j = omega (arith, grows j l) in omega (arith, ap (λ (n : ℕ). R j (n - 1)) e)
-
       at : (j : ℕ) → j < m → Dec (0 < F j) → barOf m R F ≤ ceilingOf R G j
       at j l (yes p) =
           let g = grows j l in
           let w = bar-le m R F j l p in
-          let v = last j l p (decLt (F j) (G j)) in
+          let v = ascends-le (R j) (G j) (asc j l) (F j - 1) (G j - 1) (omega arith) (omega arith) in
           let z = ceiling-some R G j (G j) (R j (G j - 1)) (keyOf (R j (G j - 1)) j) refl (omega arith) refl refl in
           omega arith
       at j l (no p) = let w = bar-empty m R F j l (omega arith) in omega arith

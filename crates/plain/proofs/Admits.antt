@@ -6,13 +6,13 @@ use lib.Dec.{eqb, leb}
 use lib.ListN.{getD, length}
 use mathlib.Core.Bool.{Bool, false, true}
 use mathlib.Core.Logic.{_≢_}
-use mathlib.Core.Path.{_≡_, refl}
+use mathlib.Core.Path.{_≡_}
 use native.Mathlib.Omega.{arith}
 use Rattle.escrow.specs.Outcome.{History}
 use Rattle.plain.proofs.AnswerLaws.{firstTo-pass, refuse-pass, then-pass}
 use Rattle.plain.specs.Answer.{accepted}
 use Rattle.plain.specs.Plain.{blockAnswer, citeAnswer, citedBefore, entryOff, lastEntry, lastRank}
-use Rattle.sums.proofs.TestLaws.{anyTo-false}
+use Rattle.sums.proofs.TestLaws.{anyTo-false, peel}
 use Rattle.sums.specs.Test.{anyTo, pick}
 use Rattle.plain.specs.Logs.{Values}
 use Rattle.sheets.specs.Parts.{hasPart}
@@ -32,9 +32,7 @@ pub record Admits (S : Sheet) (H : History) (b : Values) : Type 0 where
   pub apart : (q q' : ℕ) → q < length (b .cites) → q' < q → getD (b .cites) q' noCite ≢ getD (b .cites) q noCite
 
 else-false : (t c : Bool) → pick t true c ≡ false → (t ≡ false) × (c ≡ false)
-unfolding pick
-else-false true c e = absurd (let z : _≡_ {A = ℕ} 0 1 = cc in omega arith)
-else-false false c e = (refl, e)
+else-false t c e = peel t (λ (q : _≡_ {A = Bool} true false). let z : _≡_ {A = ℕ} 0 1 = cc in omega arith) e
 
 pub admitted : (S : Sheet) (H : History) (b : Values) → blockAnswer S H b ≡ accepted → Admits S H b
 unfolding blockAnswer entryOff citeAnswer citedBefore

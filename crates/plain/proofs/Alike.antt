@@ -1,22 +1,23 @@
 -- Two histories that are alike as far as the heights go: they grow alike, and get the same answers.
 -- Assumes nothing.
-use Prim.Native.Nat.{_%_, _*_, _+_, _-_, _/_, _<_, ℕ}
-use borrow.Author.Tests.{eq-eqb, leb-false, ne-eqb}
+use Prim.Native.Nat.{_*_, _+_, _-_, _/_, _<_, ℕ}
+use borrow.Author.Tests.{eqb-false, leb-false}
 use lib.Dec.{eqb, leb, ltb}
 use lib.ListN.{getD, length}
 use mathlib.Core.Bool.{Bool, not, true}
-use mathlib.Core.Logic.{_⊎_, inl, inr}
-use mathlib.Core.Path.{_∙_, _≡_, ap, ap₂, refl, sym}
-use native.Mathlib.Decide.{decLt, ℕ-discrete}
+use mathlib.Core.Logic.{_≢_, inl, inr}
+use mathlib.Core.Path.{_∙_, _≡_, ap, refl, sym}
+use native.Mathlib.Decide.{ℕ-discrete}
 use native.Mathlib.Omega.{arith}
 use Rattle.escrow.proofs.Growth.{Extends}
 use Rattle.escrow.specs.Outcome.{History}
 use Rattle.plain.proofs.AnswerLaws.{firstTo-ext, refuse-pass, then-ext}
 use Rattle.plain.specs.Answer.{Answer, _then_, refuse}
 use Rattle.plain.specs.Plain.{answer, blockAnswer, citeAnswer, citedBefore, entryOff, frontAnswer, lastEntry, lastRank, lentAnswer, idleAnswer}
-use Rattle.sums.proofs.TestLaws.{anyTo-ext, pick-false, pick-true}
+use Rattle.sums.proofs.TestLaws.{anyTo-ext, by-pick, pick-false, pick-true}
 use Rattle.sums.specs.Test.{anyTo, both, pick}
 use Rattle.plain.proofs.Engine.{Alike, Grown}
+use Rattle.plain.proofs.GrownLaws.{Which, new-cell, new-entry, new-rank, split}
 use Rattle.plain.specs.Offers.{Offer, lentOf, offerNeeds, offered}
 use Rattle.plain.specs.Logs.{Values}
 use Rattle.sheets.specs.Parts.{hasPart}
@@ -28,22 +29,21 @@ alike-extends S H H' a = record { longer = λ j l. omega (arith, a .heights j l)
 
 -- ---- the same answers
 
+-- what the block before says, 0 if none
+last-alike : {h h' : ℕ} (f g : ℕ → ℕ) → h ≡ h' → ((n : ℕ) → n < h → f n ≡ g n) → pick (eqb h 0) 0 (f (h - 1)) ≡ pick (eqb h' 0) 0 (g (h' - 1))
+last-alike {h} f g e same =
+    by-pick (λ (n : ℕ). n ≡ pick (eqb h 0) 0 (g (h - 1))) (eqb h 0) (λ t. sym (pick-true _ _ _ t))
+    (λ t. same (h - 1) (let z : h ≢ 0 = eqb-false h 0 t in omega (arith, z)) ∙ sym (pick-false _ _ _ t))
+    ∙ ap (λ (n : ℕ). pick (eqb n 0) 0 (g (n - 1))) e
+
 module _ (S : Sheet) (H H' : History) (b : Values) (a : Alike (S .m) H H') (l : b .instance < S .m) where
   last-rank-alike : lastRank H (b .instance) ≡ lastRank H' (b .instance)
   unfolding lastRank
-  last-rank-alike = elim (ℕ-discrete (H .height (b .instance)) 0) [
-    | yes e ↦ pick-true _ _ _ (eq-eqb _ 0 e) ∙ sym (pick-true _ _ _ (eq-eqb _ 0 (sym (a .heights (b .instance) l) ∙ e)))
-    | no e ↦ pick-false _ _ _ (ne-eqb _ 0 e) ∙ a .ranks (b .instance) (H .height (b .instance) - 1) l (omega arith) ∙ ap (λ (n : ℕ). H' .rank (b .instance) (n - 1)) (a .heights (b .instance) l)
-        ∙ sym (pick-false _ _ _ (ne-eqb (H' .height (b .instance)) 0 (λ q. e (a .heights (b .instance) l ∙ q))))
-  ]
+  last-rank-alike = last-alike (H .rank (b .instance)) (H' .rank (b .instance)) (a .heights (b .instance) l) (λ n u. a .ranks (b .instance) n l u)
 
   last-entry-alike : (e : ℕ) → e < S .m → lastEntry H (b .instance) e ≡ lastEntry H' (b .instance) e
   unfolding lastEntry
-  last-entry-alike k u = elim (ℕ-discrete (H .height (b .instance)) 0) [
-    | yes e ↦ pick-true _ _ _ (eq-eqb _ 0 e) ∙ sym (pick-true _ _ _ (eq-eqb _ 0 (sym (a .heights (b .instance) l) ∙ e)))
-    | no e ↦ pick-false _ _ _ (ne-eqb _ 0 e) ∙ a .entries (b .instance) (H .height (b .instance) - 1) k l (omega arith) u ∙ ap (λ (n : ℕ). H' .entry (b .instance) (n - 1) k) (a .heights (b .instance) l)
-        ∙ sym (pick-false _ _ _ (ne-eqb (H' .height (b .instance)) 0 (λ q. e (a .heights (b .instance) l ∙ q))))
-  ]
+  last-entry-alike e k = last-alike (λ n. H .entry (b .instance) n e) (λ n. H' .entry (b .instance) n e) (a .heights (b .instance) l) (λ n u. a .entries (b .instance) n e l u k)
 
   cite-alike : (q : ℕ) → citeAnswer S H b q ≡ citeAnswer S H' b q
   unfolding citeAnswer citedBefore
@@ -85,39 +85,26 @@ grown-alike m b H H' G G' l a g g' = record { heights = heights; ranks = ranks; 
       | no q ↦ g .others j k q ∙ a .heights j k ∙ sym (g' .others j k q)
     ]
 
-    Which : ℕ → ℕ → Type 0
-    Which j n = (n < H .height j) ⊎ ((j ≡ b .instance) × (n ≡ H .height (b .instance)))
-
-    own : (j n : ℕ) → n < G .height j → j ≡ b .instance → Dec (n < H .height j) → Which j n
-    own j n u q (yes w) = inl w
-    own j n u q (no w) = inr (q, omega (arith, g .more, ap (G .height) q, ap (H .height) q))
-
-    split : (j n : ℕ) → j < m → n < G .height j → Which j n
-    split j n k u = elim (ℕ-discrete j (b .instance)) [ yes q ↦ own j n u q (decLt n (H .height j)) | no q ↦ inl (omega (arith, g .others j k q)) ]
-
     h : H .height (b .instance) ≡ H' .height (b .instance)
     h = a .heights (b .instance) l
 
-    rank-new : (j n : ℕ) → Which j n → j < m → G .rank j n ≡ G' .rank j n
+    rank-new : (j n : ℕ) → Which b H j n → j < m → G .rank j n ≡ G' .rank j n
     rank-new j n (inl u) k = g .old-rank j n k u ∙ a .ranks j n k u ∙ sym (g' .old-rank j n k (omega (arith, a .heights j k)))
-    rank-new j n (inr u) k = ap₂ (G .rank) (u .0) (u .1) ∙ g .new-rank ∙ sym (ap₂ (G' .rank) (u .0) (u .1 ∙ h) ∙ g' .new-rank)
+    rank-new j n (inr u) k = new-rank g (u .0) (u .1) ∙ sym (new-rank g' (u .0) (u .1 ∙ h))
 
     ranks : (j n : ℕ) → j < m → n < G .height j → G .rank j n ≡ G' .rank j n
-    ranks j n k u = rank-new j n (split j n k u) k
+    ranks j n k u = rank-new j n (split g j n k u) k
 
-    entry-new : (j n e : ℕ) → Which j n → j < m → e < m → G .entry j n e ≡ G' .entry j n e
+    entry-new : (j n e : ℕ) → Which b H j n → j < m → e < m → G .entry j n e ≡ G' .entry j n e
     entry-new j n e (inl u) k w = g .old-entry j n e k u w ∙ a .entries j n e k u w ∙ sym (g' .old-entry j n e k (omega (arith, a .heights j k)) w)
-    entry-new j n e (inr u) k w = ap₂ (λ (i n : ℕ). G .entry i n e) (u .0) (u .1) ∙ g .new-entry e w ∙ sym (ap₂ (λ (i n : ℕ). G' .entry i n e) (u .0) (u .1 ∙ h) ∙ g' .new-entry e w)
+    entry-new j n e (inr u) k w = new-entry g e w (u .0) (u .1) ∙ sym (new-entry g' e w (u .0) (u .1 ∙ h))
 
     entries : (j n e : ℕ) → j < m → n < G .height j → e < m → G .entry j n e ≡ G' .entry j n e
-    entries j n e k u w = entry-new j n e (split j n k u) k w
+    entries j n e k u w = entry-new j n e (split g j n k u) k w
 
-    cell-new : (j p : ℕ) → Which j (p / 32) → j < m → G .cell j p ≡ G' .cell j p
+    cell-new : (j p : ℕ) → Which b H j (p / 32) → j < m → G .cell j p ≡ G' .cell j p
     cell-new j p (inl u) k = g .old-cell j p k (omega arith) ∙ a .cells j p k (omega arith) ∙ sym (g' .old-cell j p k (omega (arith, a .heights j k)))
-    cell-new j p (inr u) k =
-        let q : p ≡ H .height (b .instance) * 32 + p % 32 = omega (arith, u .1) in
-        let q' : p ≡ H' .height (b .instance) * 32 + p % 32 = omega (arith, u .1, h) in
-        ap₂ (G .cell) (u .0) q ∙ g .new-cell (p % 32) (omega arith) ∙ sym (ap₂ (G' .cell) (u .0) q' ∙ g' .new-cell (p % 32) (omega arith))
+    cell-new j p (inr u) k = new-cell g p (u .0) (u .1) ∙ sym (new-cell g' p (u .0) (u .1 ∙ h))
 
     cells : (j p : ℕ) → j < m → p < G .height j * 32 → G .cell j p ≡ G' .cell j p
-    cells j p k u = cell-new j p (split j (p / 32) k (omega arith)) k
+    cells j p k u = cell-new j p (split g j (p / 32) k (omega arith)) k

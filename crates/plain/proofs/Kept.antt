@@ -15,7 +15,7 @@ use Rattle.escrow.proofs.Outcomes.{ProperLogs}
 use Rattle.escrow.specs.Outcome.{History}
 use Rattle.plain.proofs.Admits.{Admits}
 use Rattle.plain.specs.Plain.{lastEntry, lastRank}
-use Rattle.ordering.proofs.Prefix.{Ascends}
+use Rattle.ordering.proofs.Prefix.{Ascends, ascends-le}
 use Rattle.ordering.proofs.Usable.{usable-all}
 use Rattle.ordering.specs.Table.{prior, usable}
 use Rattle.sums.proofs.SumLaws.{sum-add, sum-ext}
@@ -23,6 +23,7 @@ use Rattle.sums.proofs.TestLaws.{by-pick, given-false, given-true, pick-false, 
 use Rattle.sums.specs.Sum.{sumTo}
 use Rattle.sums.specs.Test.{given, pick}
 use Rattle.plain.proofs.Engine.{Grown}
+use Rattle.plain.proofs.GrownLaws.{Which, new-cell, new-entry, new-rank, split}
 use Rattle.plain.specs.Logs.{Values}
 use Rattle.sheets.specs.Parts.{hasPart}
 use Rattle.sheets.specs.Sheet.{txCount, Sheet}
@@ -83,44 +84,15 @@ usable-heights S H K j l = usable-all (H .rank) (H .height) j (K .short j l) (λ
     go n u (inr h) = omega (arith, pick-true (ltb 0 n) (H .rank j (n - 1)) 0 (lt-ltb 0 n h), K .asc j l (n - 1) n (omega arith) u)
 
 module _ (S : Sheet) (few : txCount S ≤ 1024) (H H' : History) (b : Values) (K : Kept S H) (A : Admits S H b) (G : Grown (S .m) b H H') where
-  i : ℕ
-  i = b .instance
-
   up : (j : ℕ) → j < S .m → H .height j ≤ H' .height j
   up j l = elim (ℕ-discrete j (b .instance)) [ yes q ↦ rw q (omega (arith, G .more)) | no h ↦ omega (arith, G .others j l h) ]
-
-  -- a block of the new logs is old, or the new one
-  Which : ℕ → ℕ → Type 0
-  Which j n = (n < H .height j) ⊎ ((j ≡ b .instance) × (n ≡ H .height (b .instance)))
-
-  split : (j n : ℕ) → j < S .m → n < H' .height j → Which j n
-  unfolding Which
-  split j n l u = elim (ℕ-discrete j (b .instance)) [ yes q ↦ own q (decLt n (H .height j)) | no h ↦ inl (omega (arith, G .others j l h)) ]
-    where
-      own : j ≡ b .instance → Dec (n < H .height j) → (n < H .height j) ⊎ ((j ≡ b .instance) × (n ≡ H .height (b .instance)))
-      own q (yes w) = inl w
-      own q (no w) = inr (q, omega (arith, G .more, ap (H' .height) q, ap (H .height) q))
-
-  new-rank : (j n : ℕ) → j ≡ b .instance → n ≡ H .height (b .instance) → H' .rank j n ≡ b .rank
-  new-rank j n e e' = ap₂ (H' .rank) e e' ∙ G .new-rank
-
-  new-entry : (j n e : ℕ) → e < S .m → j ≡ b .instance → n ≡ H .height (b .instance) → H' .entry j n e ≡ getD (b .cut) e 0
-  new-entry j n e k q q' = ap₂ (λ (j n : ℕ). H' .entry j n e) q q' ∙ G .new-entry e k
-
-  new-cell : (j p : ℕ) → j ≡ b .instance → p / 32 ≡ H .height (b .instance) → H' .cell j p ≡ getD (b .cites) (p % 32) noCite
-  new-cell j p e e' =
-      let q : p ≡ H .height (b .instance) * 32 + p % 32 = omega arith in
-      ap₂ (H' .cell) e q ∙ G .new-cell (p % 32) (omega arith)
 
   last-rank : (n : ℕ) → n < H .height (b .instance) → H .rank (b .instance) n ≤ lastRank H (b .instance)
   unfolding lastRank
   last-rank n l =
       by-pick (λ (r : ℕ). H .rank (b .instance) n ≤ r) (eqb (H .height (b .instance)) 0)
       (λ e. absurd (omega (arith, eqb-true (H .height (b .instance)) 0 e)))
-      (λ e. elim (decLt n (H .height (b .instance) - 1)) [
-        | yes u ↦ omega (arith, K .asc (b .instance) (A .there) n (H .height (b .instance) - 1) u (omega arith))
-        | no u ↦ omega (arith, ap (H .rank (b .instance)) (let q : n ≡ H .height (b .instance) - 1 = omega arith in q))
-      ])
+      (λ e. ascends-le (H .rank (b .instance)) (H .height (b .instance)) (K .asc (b .instance) (A .there)) n (H .height (b .instance) - 1) (omega arith) (omega arith))
 
   last-entry : (n e : ℕ) → n < H .height (b .instance) → e < S .m → H .entry (b .instance) n e ≤ lastEntry H (b .instance) e
   unfolding lastEntry
@@ -137,37 +109,33 @@ module _ (S : Sheet) (few : txCount S ≤ 1024) (H H' : History) (b : Values) (K
   new-short j l = elim (ℕ-discrete j (b .instance)) [ yes q ↦ omega (arith, ap (H' .height) q, G .more, A .room) | no h ↦ omega (arith, G .others j l h, K .short j l) ]
 
   new-ranked : (j n : ℕ) → j < S .m → n < H' .height j → 0 < H' .rank j n
-  unfolding Which
-  new-ranked j n l u = go (split j n l u)
+  new-ranked j n l u = go (split G j n l u)
     where
-      go : Which j n → 0 < H' .rank j n
+      go : Which b H j n → 0 < H' .rank j n
       go (inl h) = omega (arith, G .old-rank j n l h, K .ranked j n l h)
-      go (inr h) = omega (arith, new-rank j n (h .0) (h .1), A .above)
+      go (inr h) = omega (arith, new-rank G (h .0) (h .1), A .above)
 
   new-asc : (j : ℕ) → j < S .m → Ascends (H' .rank j) (H' .height j)
-  unfolding Which
-  new-asc j l n n' u w = go (split j n' l w)
+  new-asc j l n n' u w = go (split G j n' l w)
     where
-      go : Which j n' → H' .rank j n < H' .rank j n'
+      go : Which b H j n' → H' .rank j n < H' .rank j n'
       go (inl h) = omega (arith, K .asc j l n n' u h, G .old-rank j n l (omega arith), G .old-rank j n' l h)
       go (inr h) =
           let e : H .height j ≡ H .height (b .instance) = ap (H .height) (h .0) in
           let r : H .rank j n ≡ H .rank (b .instance) n = ap (λ (i : ℕ). H .rank i n) (h .0) in
-          omega (arith, last-rank n (omega arith), A .above, G .old-rank j n l (omega arith), new-rank j n' (h .0) (h .1))
+          omega (arith, last-rank n (omega arith), A .above, G .old-rank j n l (omega arith), new-rank G (h .0) (h .1))
 
   new-cut-in : (j n e : ℕ) → j < S .m → n < H' .height j → e < S .m → H' .entry j n e ≤ H' .height e
-  unfolding Which
-  new-cut-in j n e l u k = go (split j n l u)
+  new-cut-in j n e l u k = go (split G j n l u)
     where
-      go : Which j n → H' .entry j n e ≤ H' .height e
+      go : Which b H j n → H' .entry j n e ≤ H' .height e
       go (inl h) = omega (arith, K .cut-in j n e l h k, G .old-entry j n e l h k, up e k)
-      go (inr h) = omega (arith, A .cut-in e k, new-entry j n e k (h .0) (h .1), up e k)
+      go (inr h) = omega (arith, A .cut-in e k, new-entry G e k (h .0) (h .1), up e k)
 
   new-cut-up : (j n n' e : ℕ) → j < S .m → n ≤ n' → n' < H' .height j → e < S .m → H' .entry j n e ≤ H' .entry j n' e
-  unfolding Which
-  new-cut-up j n n' e l u w k = go (split j n' l w) (eq-or-lt-of-le u)
+  new-cut-up j n n' e l u w k = go (split G j n' l w) (eq-or-lt-of-le u)
     where
-      go : Which j n' → ((n ≡ n') ⊎ (n < n')) → H' .entry j n e ≤ H' .entry j n' e
+      go : Which b H j n' → ((n ≡ n') ⊎ (n < n')) → H' .entry j n e ≤ H' .entry j n' e
       go (inl h) s = omega (arith, K .cut-up j n n' e l u h k, G .old-entry j n e l (omega arith) k, G .old-entry j n' e l h k)
       go (inr h) (inl s) = rw s (omega arith)
       go (inr h) (inr s) =
@@ -177,38 +145,36 @@ module _ (S : Sheet) (few : txCount S ≤ 1024) (H H' : History) (b : Values) (K
             last-entry n e (omega arith) k,
             A .cut-up e k,
             G .old-entry j n e l (omega arith) k,
-            new-entry j n' e k (h .0) (h .1),
+            new-entry G e k (h .0) (h .1),
             ap (λ (i : ℕ). H .entry i n e) (h .0),
           )
 
   new-owned : (j p : ℕ) → j < S .m → p < H' .height j * 32 → H' .cell j p < txCount S → hasPart S (H' .cell j p) j ≡ true
-  unfolding Which
-  new-owned j p l u = go (split j (p / 32) l (omega arith))
+  new-owned j p l u = go (split G j (p / 32) l (omega arith))
     where
-      go : Which j (p / 32) → H' .cell j p < txCount S → hasPart S (H' .cell j p) j ≡ true
+      go : Which b H j (p / 32) → H' .cell j p < txCount S → hasPart S (H' .cell j p) j ≡ true
       go (inl h) t =
           let c : H' .cell j p ≡ H .cell j p = G .old-cell j p l (omega arith) in
           ap (λ (x : ℕ). hasPart S x j) c ∙ K .owned j p l (omega arith) (omega arith)
       go (inr h) t =
-          let c : H' .cell j p ≡ getD (b .cites) (p % 32) noCite = new-cell j p (h .0) (h .1) in
+          let c : H' .cell j p ≡ getD (b .cites) (p % 32) noCite = new-cell G p (h .0) (h .1) in
           ap₂ (λ (x i : ℕ). hasPart S x i) c (h .0) ∙ A .part (p % 32) (cite-there (p % 32) (omega arith))
 
   new-apart : (j p p' : ℕ) → j < S .m → p < p' → p' < H' .height j * 32 → H' .cell j p < txCount S → H' .cell j p ≢ H' .cell j p'
-  unfolding Which
-  new-apart j p p' l u w t = go (split j (p' / 32) l (omega arith))
+  new-apart j p p' l u w t = go (split G j (p' / 32) l (omega arith))
     where
-      go : Which j (p' / 32) → H' .cell j p ≢ H' .cell j p'
+      go : Which b H j (p' / 32) → H' .cell j p ≢ H' .cell j p'
       go (inl h) z =
           let a : H' .cell j p ≡ H .cell j p = G .old-cell j p l (omega arith) in
           let c : H' .cell j p' ≡ H .cell j p' = G .old-cell j p' l (omega arith) in
           K .apart j p p' l u (omega arith) (omega arith) (sym a ∙ z ∙ c)
       go (inr h) z =
-          let c : H' .cell j p' ≡ getD (b .cites) (p' % 32) noCite = new-cell j p' (h .0) (h .1) in
+          let c : H' .cell j p' ≡ getD (b .cites) (p' % 32) noCite = new-cell G p' (h .0) (h .1) in
           let f : p' % 32 < length (b .cites) = cite-there (p' % 32) (omega (arith, z, c)) in
           let q : H .height j ≡ H .height (b .instance) = ap (H .height) (h .0) in
           elim (decLt (p / 32) (H .height j)) [
             | yes y ↦ A .fresh (p' % 32) p f (omega arith) (sym (ap (λ (i : ℕ). H .cell i p) (h .0)) ∙ sym (G .old-cell j p l (omega arith)) ∙ z ∙ c)
-            | no y ↦ A .apart (p' % 32) (p % 32) f (omega arith) (sym (new-cell j p (h .0) (omega arith)) ∙ z ∙ c)
+            | no y ↦ A .apart (p' % 32) (p % 32) f (omega arith) (sym (new-cell G p (h .0) (omega arith)) ∙ z ∙ c)
           ]
 
   -- the new block comes last
@@ -243,33 +209,33 @@ module _ (S : Sheet) (few : txCount S ≤ 1024) (H H' : History) (b : Values) (K
       ]
 
   new-arrived : (j n : ℕ) → j < S .m → n < H' .height j → new-arrival j n < sumTo (S .m) (H' .height)
-  unfolding Which N
-  new-arrived j n l u = go (split j n l u)
+  unfolding N
+  new-arrived j n l u = go (split G j n l u)
     where
-      go : Which j n → new-arrival j n < sumTo (S .m) (H' .height)
+      go : Which b H j n → new-arrival j n < sumTo (S .m) (H' .height)
       go (inl h) = omega (arith, arrival-old j n h, K .arrived j n l h, total-more)
       go (inr h) = omega (arith, arrival-new j n (h .0) (h .1), total-more)
 
   new-after-own : (j n n' : ℕ) → j < S .m → n < n' → n' < H' .height j → new-arrival j n < new-arrival j n'
-  unfolding Which N
-  new-after-own j n n' l u w = go (split j n' l w)
+  unfolding N
+  new-after-own j n n' l u w = go (split G j n' l w)
     where
-      go : Which j n' → new-arrival j n < new-arrival j n'
+      go : Which b H j n' → new-arrival j n < new-arrival j n'
       go (inl h) = omega (arith, arrival-old j n (omega arith), arrival-old j n' h, K .after-own j n n' l u h)
       go (inr h) =
           let q : H .height j ≡ H .height (b .instance) = ap (H .height) (h .0) in
           omega (arith, arrival-old j n (omega arith), K .arrived j n l (omega arith), arrival-new j n' (h .0) (h .1))
 
   new-after-cut : (j n e n' : ℕ) → j < S .m → n < H' .height j → e < S .m → e ≢ j → n' < H' .entry j n e → new-arrival e n' < new-arrival j n
-  unfolding Which N
-  new-after-cut j n e n' l u k d w = go (split j n l u)
+  unfolding N
+  new-after-cut j n e n' l u k d w = go (split G j n l u)
     where
-      go : Which j n → new-arrival e n' < new-arrival j n
+      go : Which b H j n → new-arrival e n' < new-arrival j n
       go (inl h) =
           let c : H' .entry j n e ≡ H .entry j n e = G .old-entry j n e l h k in
           omega (arith, arrival-old j n h, arrival-old e n' (omega (arith, K .cut-in j n e l h k)), K .after-cut j n e n' l h k d (omega arith))
       go (inr h) =
-          let c : H' .entry j n e ≡ getD (b .cut) e 0 = new-entry j n e k (h .0) (h .1) in
+          let c : H' .entry j n e ≡ getD (b .cut) e 0 = new-entry G e k (h .0) (h .1) in
           let y : n' < H .height e = omega (arith, A .cut-in e k) in
           omega (arith, arrival-old e n' y, K .arrived e n' k y, arrival-new j n (h .0) (h .1))
 

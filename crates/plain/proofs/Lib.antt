@@ -1,6 +1,7 @@
 -- What acceptance keeps, and that an engine which keeps to its contract follows the plain ledger.
 pub mod AnswerLaws
 pub mod Engine
+pub mod GrownLaws
 pub mod Admits
 pub mod Kept
 pub mod Alike

@@ -1,10 +1,10 @@
 -- A frame and the values that it says are one offer: the same answer, and the same logs afterwards.
 -- Assumes nothing.
-use Prim.Native.Nat.{_*_, _+_, _<_, _≤_, suc, zero, ℕ}
-use borrow.Author.Tests.{eq-eqb, le-ltb, leb-true, lt-leb}
+use Prim.Native.Nat.{_*_, _+_, _<_, _≤_, ℕ}
+use borrow.Author.Tests.{le-ltb, lt-leb}
 use lib.Dec.{eqb, leb}
 use lib.ListN.{getD, length}
-use mathlib.Core.Bool.{Bool, false, not, true}
+use mathlib.Core.Bool.{false, not}
 use mathlib.Core.List.{List}
 use mathlib.Core.Path.{_∙_, _≡_, ap, refl, sym}
 use native.Mathlib.Decide.{decLt}
@@ -15,17 +15,17 @@ use Rattle.frames.specs.Block.{checkBlock, citesOf, cutEntry, cutOf}
 use Rattle.frames.specs.Frame.{bodyOf, frameAt}
 use Rattle.frames.specs.declared.frame.Framed.{Framed}
 use Rattle.plain.proofs.AnswerLaws.{refuse-false, then-go}
-use Rattle.plain.specs.Answer.{Answer, _then_, accepted, isAccepted, noOffer, refuse}
-use Rattle.plain.specs.Logs.{Logs, Values, appended, blockFrom, historyOf}
-use Rattle.plain.specs.Offers.{Parsed, block, blockOf, frame, offerNeeds, parse, parsedBody, parsedFrame, values, valuesIn, wrong}
-use Rattle.plain.specs.Plain.{answer, blockAnswer, frontAnswer, idleAnswer, lentAnswer, next, parsedAnswer, unusedSet, valuesAnswer}
+use Rattle.plain.specs.Answer.{accepted, noOffer}
+use Rattle.plain.specs.Logs.{Logs, Values, historyOf}
+use Rattle.plain.specs.Offers.{block, blockOf, frame, parse, parsedBody, parsedFrame, values, valuesIn, wrong}
+use Rattle.plain.specs.Plain.{answer, frontAnswer, idleAnswer, next, unusedSet, valuesAnswer}
 use Rattle.refusals.specs.declared.Checked.{Checked}
 use Rattle.refusals.specs.declared.Refusal.{Refusal}
 use Rattle.refusals.specs.declared.Refusal.the-variants.{KindNotDue}
 use Rattle.sheets.specs.Sheet.{Sheet}
 use Rattle.sums.proofs.SeqLaws.{getD-tabulate, length-tabulate}
-use Rattle.sums.proofs.TestLaws.{passed, peel, pick-false}
-use Rattle.sums.specs.Test.{anyTo, both, pick}
+use Rattle.sums.proofs.TestLaws.{anyTo-never, peel, pick-false, pick-same}
+use Rattle.sums.specs.Test.{both}
 
 never : (r : Refusal) (b : Values) → wrong r ≡ block b → ⊥
 never r b q = let z : _≡_ {A = ℕ} 0 1 = cc in omega arith
@@ -38,16 +38,6 @@ by-frame : (B : List ℕ) (m at : ℕ) (b : Values) (f : Framed) → parsedFrame
 by-frame B m at b (Framed.Whole k s n) q = by-check B m b (checkBlock B at m) (peel (not (eqb k 4)) (never (KindNotDue at) b) q .1)
 by-frame B m at b (Framed.Refused r) q = absurd (never r b q)
 by-frame B m at b Framed.End q = absurd (never (KindNotDue at) b q)
-
-any-none : (n : ℕ) (f : ℕ → Bool) → ((i : ℕ) → i < n → f i ≡ false) → anyTo n f ≡ false
-unfolding anyTo
-any-none zero f h = refl
-any-none (suc n) f h = passed true (h n (omega arith)) (any-none n f (λ i l. h i (omega arith)))
-
-none : (t : Bool) → both t false ≡ false
-unfolding pick
-none true = refl
-none false = refl
 
 module _ (S : Sheet) (bytes : List ℕ) (at : ℕ) (b : Values) (p : parse S bytes at ≡ block b) where
   abbrev B : List ℕ
@@ -68,7 +58,7 @@ module _ (S : Sheet) (bytes : List ℕ) (at : ℕ) (b : Values) (p : parse S byt
     | yes u ↦ pick-false _ _ _ (lt-leb (S .m) e u)
     | no u ↦
         let z : getD (cutOf B (S .m)) e 0 ≡ 0 = getD-tabulate 16 (cutEntry B (S .m)) e 0 l ∙ pick-false _ _ _ (le-ltb e (S .m) (omega arith)) in
-        ap (λ (n : ℕ). both (leb (S .m) e) (not (eqb n 0))) z ∙ none (leb (S .m) e)
+        ap (λ (n : ℕ). both (leb (S .m) e) (not (eqb n 0))) z ∙ pick-same (leb (S .m) e) false
   ]
 
   front : valuesAnswer (S .m) (b .cut) (length (b .cites)) ≡ accepted
@@ -76,7 +66,7 @@ module _ (S : Sheet) (bytes : List ℕ) (at : ℕ) (b : Values) (p : parse S byt
   front =
       rw (sym (parsed .0))
       (then-go _ _ accepted (refuse-false _ 5 0 (le-ltb 32 (length (citesOf B (S .m))) few))
-      (refuse-false _ 5 0 (any-none 16 _ unused)))
+      (refuse-false _ 5 0 (anyTo-never 16 _ unused)))
 
   module _ (L : Logs) (lent : List ℕ) (left : at < length bytes) where
     same-answer : answer S (historyOf L) (frame lent bytes at) ≡ answer S (historyOf L) (values lent b)
