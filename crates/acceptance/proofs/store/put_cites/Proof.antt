@@ -17,23 +17,8 @@ Inv-loop cites₀ i n list at q₀ cites q = (q ≤ 32) × (cites ≡ written ci
 abbrev μ-loop : tie.MeasureT-loop
 μ-loop cites₀ i n list at q₀ cites q = 32 - q
 
-mul-at : tie.Need-mul-at Inv-loop μ-loop
-mul-at c = omega arith
-
-mul-at-2 : tie.Need-mul-at-2 Inv-loop μ-loop
-mul-at-2 c = omega arith
-
-add-at : tie.Need-add-at Inv-loop μ-loop
-add-at c = omega arith
-
 loop-holds : tie.Need-loop-holds Inv-loop μ-loop
 loop-holds c = (omega arith, written-none _ _ _)
-
-cast-put-cell : tie.Need-cast-put-cell Inv-loop μ-loop
-cast-put-cell c = omega arith
-
-add-put-cell : tie.Need-add-put-cell Inv-loop μ-loop
-add-put-cell c = omega arith
 
 loop-again : tie.Need-loop-again Inv-loop μ-loop
 loop-again c = (omega arith, c .before .before .put-cell .ensures ∙ written-turn _ _ _ _ _ _ (c .before .before .before .before .before .before .loop .inv .1) (c .before .before .before .cite .ensures))
@@ -50,12 +35,12 @@ put-cites-spec =
     (tie.spec
     Inv-loop
     μ-loop
-    mul-at
-    mul-at-2
-    add-at
+    (λ c. omega arith)
+    (λ c. omega arith)
+    (λ c. omega arith)
     loop-holds
-    cast-put-cell
-    add-put-cell
+    (λ c. omega arith)
+    (λ c. omega arith)
     (λ c κs. search needs)
     (λ c κs. search needs)
     (λ c. search needs)
