@@ -11,7 +11,7 @@ use Rattle.admission.specs.declared.citations.Citations.{Citations}
 unfoldable pub citesIn : Citations → List ℕ
 citesIn c = take (c .count) (c .numbers)
 
--- c holds the first 32 of a list
+-- c holds the first 32 of a list; places of its array from the count on mean nothing
 pub record Listed (c : Citations) (l : List ℕ) : Type 0 where
   pub held : citesIn c ≡ take 32 l
   pub size : c .count ≡ length (citesIn c)

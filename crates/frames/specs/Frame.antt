@@ -36,3 +36,9 @@ bodyOf End run = []
 
 abbrev pub bodyAt : List ℕ → ℕ → List ℕ
 bodyAt run at = bodyOf (frameAt run at) run
+
+-- where the body begins in the run, 0 where there is no frame
+abbrev pub startOf : Framed → ℕ
+startOf (Whole k start end) = start
+startOf (Refused r) = 0
+startOf End = 0

@@ -3,7 +3,8 @@ use fields::u16_at;
 use fields::u32_at;
 use refusals::Refusal;
 ghost use mathlib.Core.Path.{_≡_};
-ghost use Rattle.frames.specs.Frame.{bodyAt, frameAt};
+ghost use Rattle.frames.specs.Frame.{bodyAt, frameAt, startOf};
+ghost use Prim.Native.Nat.{_+_};
 
 // What stands at an offset. A frame's body is from start to end, and end is the next frame's offset.
 pub enum Framed {
@@ -39,9 +40,12 @@ pub fn frame(run: &[u8], at: usize) -> Framed
     }
 }
 
-// The body of the frame at an offset, as a part of the run; empty where there is no frame.
+// The body of the frame at an offset, "as that stretch of the caller's own bytes": its content, and that it lies in the run's own memory from its start on.
+// Empty where there is no frame.
 pub fn body(run: &[u8], at: usize) -> &[u8]
-    ensures { λ r. ⌜ now r ≡ bodyAt (now (run .entry)) at ⌝ }
+    ensures { λ r. ⌜ (now r ≡ bodyAt (now (run .entry)) at)
+        × (r .ptr .0 ≡ run .entry .ptr .0)
+        × (r .ptr .1 ≡ run .entry .ptr .1 + startOf (frameAt (now (run .entry)) at)) ⌝ }
 {
     match frame(run, at) {
         Framed::Whole {

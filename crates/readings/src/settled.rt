@@ -10,7 +10,7 @@ ghost use Rattle.readings.specs.Inner.{SettlesFull, settlingAnswer};
 ghost use Rattle.settlement.specs.Tables.{buffers};
 ghost use Rattle.state.specs.State.{kept};
 
-// Settles it into the working buffers, and returns its registers: the first g of 64.
+// Settles it into the working buffers, and returns its registers: the first g of 64 cells; the others mean nothing.
 pub fn settle_full(
     ledger: Ledger,
     sheet: &[u8],

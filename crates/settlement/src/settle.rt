@@ -64,7 +64,7 @@ fn pay_all(sheet: &[u8], z: Sizes, counts: &[u32], table: &mut [u8])
     }
 }
 
-// Settles a view: the status of every transaction into the table, the view's log into the order, and its registers, which are returned (the first g of 64).
+// Settles a view: the status of every transaction into the table, the view's log into the order, and its registers, which are returned: the first g of 64 cells, of which the others mean nothing.
 // The counts end as the view's tallies. What each buffer has past its own part is as it was.
 pub fn settle(
     sheet: &[u8],

@@ -43,7 +43,7 @@ operateTo ops (suc k) r =
 unfoldable pub operated : Sheet → ℕ → List ℕ → Done
 operated S x r = operateTo (txAt S x .operations) (length (txAt S x .operations)) r
 
--- what a run of operations leaves: whether all passed, and in the first g of 64 cells the registers as they then are
+-- what a run of operations leaves: whether all passed, and in the first g of 64 cells the registers as they then are; the other cells mean nothing
 pub record Leaves (g : ℕ) (r : Ran) (d : Done) : Type 0 where
   pub passes : r .passes ≡ d .passes
   pub registers : take g (r .registers) ≡ d .registers

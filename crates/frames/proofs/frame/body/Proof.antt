@@ -2,10 +2,10 @@
 -- Assumes nothing.
 use borrow.Author.Needs.{needs}
 use denote.Ref.{now}
-use mathlib.Core.Path.{_∙_, ap, sym}
+use mathlib.Core.Path.{_≡_, _∙_, ap, refl, sym}
 use native.Mathlib.Omega.{arith}
 use Rattle.frames.proofs.FrameLaws.{IsFrame, frame-is}
-use Rattle.frames.specs.Frame.{bodyOf}
+use Rattle.frames.specs.Frame.{bodyOf, startOf}
 use Rattle.frames.specs.declared.frame.Framed.{Framed}
 use Rattle.frames.proofs.frame.body.Statement.{statement}
 use Rattle.frames.proofs.frame.body.Tie as tie
@@ -31,17 +31,23 @@ part-result-end c = let s = places c in omega arith
 returns : tie.Need-returns
 returns c =
     let run = now (c .before .before .before .before .before .before .args .run) in
-    ap (λ (f : Framed). bodyOf f run) (sym (c .before .before .start .given .1) ∙ c .before .before .before .before .frame .ensures)
+    let q = sym (c .before .before .start .given .1) ∙ c .before .before .before .before .frame .ensures in
+    let e = ap startOf q in
+    (ap (λ (f : Framed). bodyOf f run) q, refl, omega (arith, e))
 
 returns-2 : tie.Need-returns-2
 returns-2 c =
     let run = now (c .before .before .before .before .before .args .run) in
-    ap (λ (f : Framed). bodyOf f run) (sym (c .before .enum-told .given .1) ∙ c .before .before .before .frame .ensures)
+    let q = sym (c .before .enum-told .given .1) ∙ c .before .before .before .frame .ensures in
+    let e = ap startOf q in
+    (ap (λ (f : Framed). bodyOf f run) q, refl, omega (arith, e))
 
 returns-3 : tie.Need-returns-3
 returns-3 c =
     let run = now (c .before .before .before .before .before .args .run) in
-    ap (λ (f : Framed). bodyOf f run) (sym (c .before .enum-told2 .given .1) ∙ c .before .before .before .frame .ensures)
+    let q = sym (c .before .enum-told2 .given .1) ∙ c .before .before .before .frame .ensures in
+    let e = ap startOf q in
+    (ap (λ (f : Framed). bodyOf f run) q, refl, omega (arith, e))
 
 pub body-spec : {M : Type 1} → statement M
 body-spec =

@@ -11,7 +11,7 @@ returns c = sym (step-kind (now (c .before .before .before .before .before .befo
 
 returns-2 : tie.Need-returns-2
 returns-2 c =
-    let t = simp (c .before .body .ensures) at (c .take-checked .ensures) in
+    let t = simp (c .before .body .ensures .0) at (c .take-checked .ensures) in
     t ∙ sym (step-take (now (c .before .before .before .before .before .before .before .before .before .args .run)) (c .before .before .before .before .before .before .before .before .before .args .at) (c .before .before .before .before .before .before .before .before .before .args .s) (sym (c .before .before .before .before .before .before .before .frame .ensures) ∙ c .before .before .before .before .before .kind .given .1) (omega arith))
 
 returns-3 : tie.Need-returns-3

@@ -23,7 +23,7 @@ returns-4 : tie.Need-returns-4
 returns-4 c = let s = c .before .before .before .before .before .before .before .before .before .before .before .before .before .args in let l = s .ledger in let K = kept (s .sheet .now) (s .ranks .now) (s .cuts .now) (s .cites .now) [] in let n = needsList (s .lent) in frame-end l K n (s .bytes .now) (s .at) (c .before .before .before .before .before .before .before .if1 .left) (replyTo (c .before .before .before .before .before .check-lengths .result)) (c .before .before .before .before .before .check-lengths .ensures ∙ ap (λ (x : Lengths). lentAnswer (needsList x) n) (c .before .before .before .before .before .before .least-lengths .ensures)) (c .before .before .before .before .is-fine .ensures) (c .before .before .before .if2 .left) (sym (c .before .before .frame .ensures) ∙ c .enum-told .given .1)
 
 returns-5 : tie.Need-returns-5
-returns-5 c = let s = c .before .before .before .before .before .before .before .before .before .before .before .before .before .before .before .before .before .args in let l = s .ledger in let K = kept (s .sheet .now) (s .ranks .now) (s .cuts .now) (s .cites .now) [] in let n = needsList (s .lent) in c .answer-to2 .ensures ∙ frame-whole l K n (s .bytes .now) (s .at) (c .before .before .before .before .before .before .before .before .before .before .before .if1 .left) (replyTo (c .before .before .before .before .before .before .before .before .before .check-lengths .result)) (c .before .before .before .before .before .before .before .before .before .check-lengths .ensures ∙ ap (λ (x : Lengths). lentAnswer (needsList x) n) (c .before .before .before .before .before .before .before .before .before .before .least-lengths .ensures)) (c .before .before .before .before .before .before .before .before .is-fine .ensures) (c .before .before .before .before .before .before .before .if2 .left) (sym (c .before .before .before .before .before .before .frame .ensures) ∙ c .before .before .before .before .kind .given .1) _ _ (c .before .before .body .ensures) (c .before .whole-verdict .ensures)
+returns-5 c = let s = c .before .before .before .before .before .before .before .before .before .before .before .before .before .before .before .before .before .args in let l = s .ledger in let K = kept (s .sheet .now) (s .ranks .now) (s .cuts .now) (s .cites .now) [] in let n = needsList (s .lent) in c .answer-to2 .ensures ∙ frame-whole l K n (s .bytes .now) (s .at) (c .before .before .before .before .before .before .before .before .before .before .before .if1 .left) (replyTo (c .before .before .before .before .before .before .before .before .before .check-lengths .result)) (c .before .before .before .before .before .before .before .before .before .check-lengths .ensures ∙ ap (λ (x : Lengths). lentAnswer (needsList x) n) (c .before .before .before .before .before .before .before .before .before .before .least-lengths .ensures)) (c .before .before .before .before .before .before .before .before .is-fine .ensures) (c .before .before .before .before .before .before .before .if2 .left) (sym (c .before .before .before .before .before .before .frame .ensures) ∙ c .before .before .before .before .kind .given .1) _ _ (c .before .before .body .ensures .0) (c .before .whole-verdict .ensures)
 
 pub frame-verdict-spec : {M : Type 1} → statement M
 frame-verdict-spec =

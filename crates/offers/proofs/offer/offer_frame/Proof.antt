@@ -22,7 +22,7 @@ returns c = let s = c .before .before .before .before .before .before .before .b
 
 take-block-requires : tie.Need-take-block-requires
 unfolding unjudged
-take-block-requires c κs = let s = c .before .before .before .before .before .before .before .before .before .before .before .before .before .before .before .before .before .before .before .before .before .before .before .before .before .args in let K = kept (s .sheet .now) (s .ranks .now) (s .cuts .now) (s .cites .now) (s .good .now) in let W = buffers (s .counts .now) (s .table .now) (s .order .now) in frame-may-take (s .ledger) K W (s .bytes .now) (s .at) (c .before .before .before .before .before .before .before .before .before .before .before .before .frame-verdict .result) (c .before .before .before .before .before .before .before .before .before .before .before .before .frame-verdict .ensures) (c .before .before .before .before .before .before .before .before .before .before .before .is-accepted .ensures) (c .before .before .before .before .before .before .before .before .before .before .if1 .left) (c .before .before .before .before .before .before .before .before .before .body .result .now) (c .before .block-of .result) (c .citations-in .result) (c .before .before .before .before .before .before .before .before .before .body .ensures) (c .before .block-of .ensures) (c .citations-in .ensures .held) (array-length 16 (s .ledger .heights) (c .before .before .before .before .before .before .before .before .before .before .before .before .before .before .before .before .before .before .before .before .before .before .before .before .before .good .0 .1 .1 .1 .0 .1 .0 .1))
+take-block-requires c κs = let s = c .before .before .before .before .before .before .before .before .before .before .before .before .before .before .before .before .before .before .before .before .before .before .before .before .before .args in let K = kept (s .sheet .now) (s .ranks .now) (s .cuts .now) (s .cites .now) (s .good .now) in let W = buffers (s .counts .now) (s .table .now) (s .order .now) in frame-may-take (s .ledger) K W (s .bytes .now) (s .at) (c .before .before .before .before .before .before .before .before .before .before .before .before .frame-verdict .result) (c .before .before .before .before .before .before .before .before .before .before .before .before .frame-verdict .ensures) (c .before .before .before .before .before .before .before .before .before .before .before .is-accepted .ensures) (c .before .before .before .before .before .before .before .before .before .before .if1 .left) (c .before .before .before .before .before .before .before .before .before .body .result .now) (c .before .block-of .result) (c .citations-in .result) (c .before .before .before .before .before .before .before .before .before .body .ensures .0) (c .before .block-of .ensures) (c .citations-in .ensures .held) (array-length 16 (s .ledger .heights) (c .before .before .before .before .before .before .before .before .before .before .before .before .before .before .before .before .before .before .before .before .before .before .before .before .before .good .0 .1 .1 .1 .0 .1 .0 .1))
 
 same-length-4 : tie.Need-same-length-4
 same-length-4 c = c .before .before .before .before .before .before .before .before .before .before .before .before .before .ranks .given
@@ -47,7 +47,7 @@ same-length-10 c = c .before .order .given
 
 returns-2 : tie.Need-returns-2
 unfolding unjudged
-returns-2 c = let s = c .before .before .before .before .before .before .before .before .before .before .before .before .before .before .before .before .before .before .before .before .before .before .before .before .before .before .before .before .before .before .before .before .before .before .before .before .before .before .before .before .args in let K = kept (s .sheet .now) (s .ranks .now) (s .cuts .now) (s .cites .now) (s .good .now) in let W = buffers (s .counts .now) (s .table .now) (s .order .now) in frame-was-taken (s .ledger) K W (s .bytes .now) (s .at) (c .before .before .before .before .before .before .before .before .before .before .before .before .before .before .before .before .before .before .before .before .before .before .before .before .before .before .before .frame-verdict .result) (c .before .before .before .before .before .before .before .before .before .before .before .before .before .before .before .before .before .before .before .before .before .before .before .before .before .before .before .frame-verdict .ensures) (c .before .before .before .before .before .before .before .before .before .before .before .before .before .before .before .before .before .before .before .before .before .before .before .before .before .before .is-accepted .ensures) (c .before .before .before .before .before .before .before .before .before .before .before .before .before .before .before .before .before .before .before .before .before .before .before .before .before .if1 .left) (c .before .before .before .before .before .before .before .before .before .before .before .before .before .before .before .before .before .before .before .before .before .before .before .before .body .result .now) (c .before .before .before .before .before .before .before .before .before .before .before .before .before .before .before .before .block-of .result) (c .before .before .before .before .before .before .before .before .before .before .before .before .before .before .before .citations-in .result) (c .before .before .before .before .before .before .before .before .before .before .before .before .before .before .before .before .before .before .before .before .before .before .before .before .body .ensures) (c .before .before .before .before .before .before .before .before .before .before .before .before .before .before .before .before .block-of .ensures) (c .before .before .before .before .before .before .before .before .before .before .before .before .before .before .before .citations-in .ensures .held) refl (c .before .before .before .before .before .before .before .before .before .before .before .before .before .before .take-block .ensures)
+returns-2 c = let s = c .before .before .before .before .before .before .before .before .before .before .before .before .before .before .before .before .before .before .before .before .before .before .before .before .before .before .before .before .before .before .before .before .before .before .before .before .before .before .before .before .args in let K = kept (s .sheet .now) (s .ranks .now) (s .cuts .now) (s .cites .now) (s .good .now) in let W = buffers (s .counts .now) (s .table .now) (s .order .now) in frame-was-taken (s .ledger) K W (s .bytes .now) (s .at) (c .before .before .before .before .before .before .before .before .before .before .before .before .before .before .before .before .before .before .before .before .before .before .before .before .before .before .before .frame-verdict .result) (c .before .before .before .before .before .before .before .before .before .before .before .before .before .before .before .before .before .before .before .before .before .before .before .before .before .before .before .frame-verdict .ensures) (c .before .before .before .before .before .before .before .before .before .before .before .before .before .before .before .before .before .before .before .before .before .before .before .before .before .before .is-accepted .ensures) (c .before .before .before .before .before .before .before .before .before .before .before .before .before .before .before .before .before .before .before .before .before .before .before .before .before .if1 .left) (c .before .before .before .before .before .before .before .before .before .before .before .before .before .before .before .before .before .before .before .before .before .before .before .before .body .result .now) (c .before .before .before .before .before .before .before .before .before .before .before .before .before .before .before .before .block-of .result) (c .before .before .before .before .before .before .before .before .before .before .before .before .before .before .before .citations-in .result) (c .before .before .before .before .before .before .before .before .before .before .before .before .before .before .before .before .before .before .before .before .before .before .before .before .body .ensures .0) (c .before .before .before .before .before .before .before .before .before .before .before .before .before .before .before .before .block-of .ensures) (c .before .before .before .before .before .before .before .before .before .before .before .before .before .before .before .citations-in .ensures .held) refl (c .before .before .before .before .before .before .before .before .before .before .before .before .before .before .take-block .ensures)
 
 pub offer-frame-spec : {M : Type 1} → statement M
 offer-frame-spec =

@@ -5,7 +5,7 @@ use Rattle.replay.proofs.answers.put_answer.Statement.{statement}
 use Rattle.replay.proofs.answers.put_answer.Tie as tie
 
 returns : tie.Need-returns
-returns c = wrote-as (ok-is _ _ _ _ _ (c .before .before .before .before .before .block-of .ensures) (c .before .before .before .before .before .before .body .ensures) (c .before .before .before .before .before .before .before .enum-told .given .1)) (c .before .before .put-ok .ensures)
+returns c = wrote-as (ok-is _ _ _ _ _ (c .before .before .before .before .before .block-of .ensures) (c .before .before .before .before .before .before .body .ensures .0) (c .before .before .before .before .before .before .before .enum-told .given .1)) (c .before .before .put-ok .ensures)
 
 returns-2 : tie.Need-returns-2
 returns-2 c = wrote-as (refused-is _ _ _ _ _ _ (c .before .before .before .before .number .ensures) (c .before .before .before .place .ensures) (c .before .before .before .before .before .before .before .answer .given .1)) (c .before .before .put-refused .ensures)
