@@ -1,9 +1,9 @@
 -- A list of citations by value: its places, its size, and how it is filled.
 -- Assumes nothing.
 use Prim.Native.Nat.{_*_, _+_, _<_, _≤_, min, ℕ}
-use lib.ListN.{List·getD-eq-default, drop, getD, length, length-map, length-take, take}
+use lib.ListN.{List·getD-eq-default, drop, getD, length, length-take, take}
 use lib.Seq.{getD-take}
-use mathlib.Core.List.{List, map}
+use mathlib.Core.List.{List}
 use mathlib.Core.Path.{_∙_, _≡_, ap, refl, sym}
 use native.Mathlib.Omega.{arith}
 use Rattle.admission.specs.Citing.{Listed, citesIn}
@@ -17,30 +17,18 @@ use Rattle.fields.proofs.NumberLaws.{le-drop}
 
 -- ---- a place, and the size
 
--- what a field that is an array says of its length
-pub array-size : (l : List ℕ) → length (map (λ (v : ℕ). v) l) ≡ 32 → length l ≡ 32
-array-size l e = sym (length-map l (λ (v : ℕ). v)) ∙ e
-
 module _ (c : Citations) (q : ℕ) where
-  pub cite-past : c .count ≤ q → 65535 ≡ getD (citesIn c) q noCite
+  pub cite-past : min (c .count) (length (c .numbers)) ≤ q → 65535 ≡ getD (citesIn c) q noCite
   unfolding citesIn
   cite-past h = sym (List·getD-eq-default (take (c .count) (c .numbers)) 65535 (omega (arith, length-take (c .count) (c .numbers))))
-
-  pub cite-out : length (c .numbers) ≤ q → 65535 ≡ getD (citesIn c) q noCite
-  unfolding citesIn
-  cite-out h = sym (List·getD-eq-default (take (c .count) (c .numbers)) 65535 (omega (arith, length-take (c .count) (c .numbers))))
 
   pub cite-in : q < c .count → q < length (c .numbers) → getD (c .numbers) q 0 ≡ getD (citesIn c) q noCite
   unfolding citesIn
   cite-in h l = getD-default (c .numbers) q 0 65535 l ∙ sym (getD-take (c .count) (c .numbers) q 65535 h)
 
-pub size-few : (c : Citations) → c .count ≤ length (c .numbers) → c .count ≡ length (citesIn c)
+pub size-is : (c : Citations) → min (c .count) (length (c .numbers)) ≡ length (citesIn c)
 unfolding citesIn
-size-few c h = omega (arith, length-take (c .count) (c .numbers))
-
-pub size-all : (c : Citations) → length (c .numbers) ≤ c .count → length (c .numbers) ≡ length (citesIn c)
-unfolding citesIn
-size-all c h = omega (arith, length-take (c .count) (c .numbers))
+size-is c = sym (length-take (c .count) (c .numbers))
 
 -- ---- the first 32 of a list, as a table
 

@@ -8,7 +8,7 @@ use mathlib.Core.Bool.{Bool, false, not, true}
 use mathlib.Core.List.{List}
 use mathlib.Core.Path.{_∙_, _≡_, ap, refl, sym}
 use native.Mathlib.Omega.{arith}
-use Rattle.admission.proofs.SearchLaws.{any-end, any-found, any-rest, any-turn}
+use Rattle.admission.proofs.SearchLaws.{any-found, any-rest, any-turn}
 use Rattle.admission.specs.Citing.{citesIn, valuesOf, valuesWith}
 use Rattle.admission.specs.Replies.{citesOnly}
 use Rattle.escrow.specs.Cells.{historyIn}

@@ -12,6 +12,10 @@ use Rattle.sums.proofs.LoopLaws.{anyTo-hit, anyTo-more}
 use Rattle.sums.proofs.TestLaws.{pick-false}
 use Rattle.sums.specs.Test.{anyTo, pick}
 
+-- a search that has come to its last place
+pub at-end : {A B : Type 0} (search : ℕ → B → A) (n i : ℕ) (f : B) {x : A} → i ≤ n → n ≤ i → search i f ≡ x → x ≡ search n f
+at-end search n i f a b p = let q : n ≡ i = omega arith in sym (ap (λ (k : ℕ). search k f) q ∙ p)
+
 -- ---- a flag; u is what the test of a turn gave
 
 pub any-found : (n i : ℕ) (f : ℕ → Bool) {u : Bool} → i < n → u ≡ f i → u ≡ true → true ≡ anyTo n f
@@ -19,9 +23,6 @@ any-found n i f h q e = sym (anyTo-hit n i f h (sym q ∙ e))
 
 pub any-turn : (i : ℕ) (f : ℕ → Bool) {u : Bool} → anyTo i f ≡ false → u ≡ f i → u ≡ false → anyTo (i + 1) f ≡ false
 any-turn i f p q e = anyTo-more i f p (sym q ∙ e)
-
-pub any-end : (n i : ℕ) (f : ℕ → Bool) → i ≤ n → n ≤ i → anyTo i f ≡ false → false ≡ anyTo n f
-any-end n i f a b p = let q : n ≡ i = omega arith in sym (ap (λ (k : ℕ). anyTo k f) q ∙ p)
 
 -- no test passes from i on
 pub any-rest : (n i : ℕ) (f : ℕ → Bool) → i ≤ n → anyTo i f ≡ false → ((k : ℕ) → i ≤ k → f k ≡ false) → anyTo n f ≡ false
@@ -43,9 +44,6 @@ module _ (t : ℕ → Bool) (number : ℕ) where
   first-turn i p q e = firstTo-next i (λ e. refuse (t e) number e) p ∙ refuse-false (t i) number i (sym q ∙ e)
 
 -- ---- answers; u tells whether the answer r of a step is an acceptance
-
-pub first-end : (n i : ℕ) (f : ℕ → Answer) → i ≤ n → n ≤ i → firstTo i f ≡ accepted → accepted ≡ firstTo n f
-first-end n i f a b p = let q : n ≡ i = omega arith in sym (ap (λ (k : ℕ). firstTo k f) q ∙ p)
 
 passes : (r : Answer) {u : Bool} → u ≡ isAccepted r → not u ≡ false → r ≡ accepted
 passes r {u} q e = accepted-of r (sym q ∙ not-false u e)

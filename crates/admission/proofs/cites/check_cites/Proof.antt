@@ -9,7 +9,7 @@ use Rattle.plain.specs.Plain.{citeAnswer}
 use Rattle.admission.specs.Replies.{citesOnly}
 use Rattle.admission.specs.Citing.{valuesOf, citesIn}
 use Rattle.sheets.specs.Sheet.{sheetIn}
-use Rattle.admission.proofs.SearchLaws.{first-end}
+use Rattle.admission.proofs.SearchLaws.{at-end}
 use Rattle.admission.proofs.SearchLaws.{answer-found, answer-turn}
 use Rattle.admission.proofs.cites.check_cites.Statement.{statement}
 use Rattle.admission.proofs.cites.check_cites.Tie as tie
@@ -36,7 +36,7 @@ loop-again : tie.Need-loop-again Inv-loop μ-loop
 loop-again c = (omega arith, c .before .before .before .before .loop .inv .1, answer-turn _ _ (c .before .before .before .before .loop .inv .2) (c .before .before .check-cite .ensures) (c .before .is-fine .ensures) (c .if1 .left))
 
 returns-2 : tie.Need-returns-2 Inv-loop μ-loop
-returns-2 c = first-end _ _ _ (omega arith) (omega arith) (c .before .loop .inv .2)
+returns-2 c = at-end firstTo _ _ _ (omega arith) (omega arith) (c .before .loop .inv .2)
 
 pub check-cites-spec : {M : Type 1} → statement M
 check-cites-spec =

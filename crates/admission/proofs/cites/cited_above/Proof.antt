@@ -7,7 +7,7 @@ use lib.ListN.{getD}
 use Rattle.sums.specs.Test.{anyTo}
 use Rattle.sums.proofs.LoopLaws.{anyTo-none}
 use Rattle.admission.specs.Citing.{citesIn}
-use Rattle.admission.proofs.SearchLaws.{any-end}
+use Rattle.admission.proofs.SearchLaws.{at-end}
 use Rattle.admission.proofs.CiteLaws.{isAt, is-found, is-turn}
 use Rattle.admission.proofs.cites.cited_above.Statement.{statement}
 use Rattle.settlement.specs.View.{noCite}
@@ -35,7 +35,7 @@ loop-again : tie.Need-loop-again Inv-loop μ-loop
 loop-again c = (omega arith, is-turn _ _ _ (c .before .before .before .loop .inv .1) (c .before .cite .ensures) (c .if1 .left))
 
 returns-2 : tie.Need-returns-2 Inv-loop μ-loop
-returns-2 c = any-end _ _ _ (c .before .loop .inv .0) (c .loop-test .left) (c .before .loop .inv .1)
+returns-2 c = at-end anyTo _ _ _ (c .before .loop .inv .0) (c .loop-test .left) (c .before .loop .inv .1)
 
 pub cited-above-spec : {M : Type 1} → statement M
 cited-above-spec =

@@ -5,7 +5,7 @@ use Prim.Native.Nat.{ℕ, _≤_, _-_}
 use native.Mathlib.Omega.{arith}
 use Rattle.sums.specs.Test.{anyTo}
 use Rattle.sums.proofs.LoopLaws.{anyTo-none}
-use Rattle.admission.proofs.SearchLaws.{any-end}
+use Rattle.admission.proofs.SearchLaws.{at-end}
 use Rattle.admission.proofs.CiteLaws.{isAt, is-found, is-turn, cell-there, row-past}
 use Rattle.admission.proofs.cites.cited_by.Statement.{statement}
 use Rattle.settlement.specs.Cells.{cellIn}
@@ -45,7 +45,7 @@ returns-2 : tie.Need-returns-2 Inv-loop μ-loop
 returns-2 c = row-past (c .before .before .before .before .before .args .cites .now) (c .before .before .before .before .before .args .i) (c .before .before .before .before .before .args .x) (c .before .before .before .before .before .args .n) _ (c .if2 .taken) (c .before .before .before .within .ensures .outside (c .if2 .taken)) (let q : c .before .before .loop .p ≡ c .before .before .before .within .result = omega arith in ap (λ (j : ℕ). anyTo j (isAt (cellIn (c .before .before .before .before .before .args .cites .now) (c .before .before .before .before .before .args .i)) (c .before .before .before .before .before .args .x))) (sym q) ∙ c .before .before .loop .inv .1)
 
 returns-3 : tie.Need-returns-3 Inv-loop μ-loop
-returns-3 c = any-end _ _ _ (omega (arith, c .before .before .before .within .ensures .most)) (omega arith) (c .before .before .loop .inv .1)
+returns-3 c = at-end anyTo _ _ _ (omega (arith, c .before .before .before .within .ensures .most)) (omega arith) (c .before .before .loop .inv .1)
 
 pub cited-by-spec : {M : Type 1} → statement M
 cited-by-spec =

@@ -8,7 +8,7 @@ use Rattle.plain.proofs.AnswerLaws.{firstTo-zero}
 use lib.Dec.{ltb}
 use borrow.Author.Tests.{lt-ltb, le-ltb}
 use Rattle.ordering.specs.Table.{countIn}
-use Rattle.admission.proofs.SearchLaws.{first-found, first-turn, first-end}
+use Rattle.admission.proofs.SearchLaws.{first-found, first-turn, at-end}
 use Rattle.admission.proofs.entries.check_cover.Statement.{statement}
 use Rattle.admission.proofs.entries.check_cover.Tie as tie
 
@@ -34,7 +34,7 @@ loop-again : tie.Need-loop-again Inv-loop μ-loop
 loop-again c = (omega arith, first-turn _ _ _ (c .before .before .before .before .loop .inv .1) (ap₂ ltb (c .before .before .count-at .ensures) (c .before .count-at2 .ensures)) (le-ltb (c .before .before .count-at .result) (c .before .count-at2 .result) (omega arith)))
 
 returns-2 : tie.Need-returns-2 Inv-loop μ-loop
-returns-2 c = first-end _ _ _ (c .before .loop .inv .0) (c .loop-test .left) (c .before .loop .inv .1)
+returns-2 c = at-end firstTo _ _ _ (c .before .loop .inv .0) (c .loop-test .left) (c .before .loop .inv .1)
 
 pub check-cover-spec : {M : Type 1} → statement M
 check-cover-spec =

@@ -8,7 +8,7 @@ use Rattle.plain.specs.Plain.{entryOff}
 use Rattle.admission.specs.Replies.{cutsOnly}
 use Rattle.admission.specs.Citing.{valuesWith}
 use mathlib.Core.List.{[]}
-use Rattle.admission.proofs.SearchLaws.{first-found, first-turn, first-end}
+use Rattle.admission.proofs.SearchLaws.{first-found, first-turn, at-end}
 use Rattle.admission.proofs.entries.check_order.Statement.{statement}
 use Rattle.admission.proofs.entries.check_order.Tie as tie
 
@@ -34,7 +34,7 @@ loop-again : tie.Need-loop-again Inv-loop μ-loop
 loop-again c = (omega arith, first-turn _ _ _ (c .before .before .before .loop .inv .1) (c .before .is-off .ensures) (c .if1 .left))
 
 returns-2 : tie.Need-returns-2 Inv-loop μ-loop
-returns-2 c = first-end _ _ _ (c .before .loop .inv .0) (c .loop-test .left) (c .before .loop .inv .1)
+returns-2 c = at-end firstTo _ _ _ (c .before .loop .inv .0) (c .loop-test .left) (c .before .loop .inv .1)
 
 pub check-order-spec : {M : Type 1} → statement M
 check-order-spec =

@@ -6,7 +6,7 @@ use native.Mathlib.Omega.{arith}
 use Rattle.sums.specs.Test.{anyTo}
 use Rattle.sums.proofs.LoopLaws.{anyTo-none}
 use Rattle.plain.specs.Plain.{unusedSet}
-use Rattle.admission.proofs.SearchLaws.{any-found, any-turn, any-end}
+use Rattle.admission.proofs.SearchLaws.{any-found, any-turn, at-end}
 use Rattle.admission.proofs.EntryLaws.{setAt}
 use Rattle.admission.proofs.entries.unused_set.Statement.{statement}
 use Rattle.admission.proofs.entries.unused_set.Tie as tie
@@ -35,7 +35,7 @@ loop-again c = (omega arith, any-turn _ _ (c .before .before .before .loop .inv 
 
 returns-2 : tie.Need-returns-2 Inv-loop μ-loop
 unfolding unusedSet
-returns-2 c = any-end _ _ _ (c .before .loop .inv .0) (c .loop-test .left) (c .before .loop .inv .1)
+returns-2 c = at-end anyTo _ _ _ (c .before .loop .inv .0) (c .loop-test .left) (c .before .loop .inv .1)
 
 pub unused-set-spec : {M : Type 1} → statement M
 unused-set-spec =
