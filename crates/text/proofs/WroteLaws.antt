@@ -8,11 +8,8 @@ use mathlib.Core.Path.{_∙_, _≡_, ap, refl, sym}
 use native.Mathlib.Decide.{decLt}
 use native.Mathlib.Numerals.{add-one}
 use native.Mathlib.Omega.{arith}
+use Rattle.fields.proofs.StoreLaws.{sets-out}
 use Rattle.text.specs.Wrote.{Wrote, placeAfter}
-
-sets-past : (v l : List ℕ) (at : ℕ) → length l ≤ at → sets l at v ≡ l
-sets-past [] l at h = refl
-sets-past (x ∷ v) l at h = rw (set-out l at x h) (sets-past v l (suc at) (omega arith))
 
 sets-after : (a b l : List ℕ) (at : ℕ) → sets (sets l at a) (placeAfter (length l) at (length a)) b ≡ sets l at (a ++ b)
 sets-after [] b l at = ap (λ (p : ℕ). sets l p b) (omega arith)
@@ -23,7 +20,7 @@ sets-after (x ∷ a) b l at = elim (decLt at (length l)) [
   | no h ↦
       let e : placeAfter (length l) at (suc (length a)) ≡ at = omega arith in
       let past : length l ≤ at = omega arith in
-      rw e (ap (λ (m : List ℕ). sets m at b) (sets-past (x ∷ a) l at past) ∙ sets-past b l at past ∙ sym (sets-past ((x ∷ a) ++ b) l at past))
+      rw e (ap (λ (m : List ℕ). sets m at b) (sets-out (x ∷ a) l at past) ∙ sets-out b l at past ∙ sym (sets-out ((x ∷ a) ++ b) l at past))
 ]
 
 pub wrote-none : (l : List ℕ) (at : ℕ) → Wrote l at [] l at
