@@ -66,6 +66,19 @@ pub then-stop : (a b : Answer) (n p : ℕ) → a ≡ refused n p → (a then b) 
 unfolding _then_
 then-stop a b n p e = rw e
 
+-- answers one after the other
+pub then-assoc : (a b c : Answer) → ((a then b) then c) ≡ (a then (b then c))
+unfolding _then_
+then-assoc accepted b c = refl
+then-assoc (refused n p) b c = refl
+then-assoc noOffer b c = refl
+
+pub then-accepted : (a : Answer) → (a then accepted) ≡ a
+unfolding _then_
+then-accepted accepted = refl
+then-accepted (refused n p) = refl
+then-accepted noOffer = refl
+
 -- ---- a search, turn by turn
 
 pub firstTo-zero : (f : ℕ → Answer) → firstTo 0 f ≡ accepted

@@ -12,7 +12,7 @@ use Rattle.escrow.specs.Report.{shareOf}
 use Rattle.ordering.specs.Table.{countIn}
 use Rattle.plain.specs.Answer.{_then_, accepted, refuse}
 use Rattle.plain.specs.Report.{accounts, filledWith, fillNeeds, listsOf, registers, settlements, share, valueOf, workNeeds}
-use Rattle.readings.proofs.ReadLaws.{answerIn, free-filled, held-filled, reads-accepted, reads-refused, registers-filled, share-is, statuses-filled}
+use Rattle.readings.proofs.ReadLaws.{answerIn, free-filled, held-filled, reads-accepted, registers-filled, share-is, statuses-filled}
 use Rattle.readings.proofs.RoomLaws.{answer-none, answer-one, answer-two, next-passed, room}
 use Rattle.readings.specs.Inner.{SettlesFull, placesIn, settlingAnswer}
 use Rattle.readings.specs.Reading.{Reads, reportIn}
@@ -21,19 +21,15 @@ use Rattle.sheets.proofs.SheetCells.{sheet-a, sheet-count, sheet-g}
 use Rattle.state.specs.State.{Kept, sizesOf}
 use Rattle.sums.specs.Seq.{written}
 use Rattle.refusals.specs.declared.Checked.{Checked}
-use Rattle.refusals.specs.declared.Refusal.{Refusal}
 use Rattle.sheets.specs.declared.sheet.Sizes.{Sizes}
 use Rattle.state.specs.declared.ledger.Ledger.{Ledger}
 
 -- ---- the share: no list
 
 module _ (l : Ledger) (K : Kept) (W : Buffers) (v : Checked) (e : replyTo v ≡ settlingAnswer l K W) where
-  answer-share : replyTo v ≡ answerIn l K W share []
+  pub answer-share : replyTo v ≡ answerIn l K W share []
   unfolding settlingAnswer workNeeds fillNeeds
   answer-share = answer-none l K W share (reportIn l K) (replyTo v) e refl
-
-  pub share-refused : (x : Refusal) → v ≡ Checked.Refused x → Reads l K W share [] (replyTo (Checked.Refused x)) 0 W []
-  share-refused x t = reads-refused l K W share [] v x t answer-share
 
   pub share-told : v ≡ Checked.Fine → (values : List ℕ) (W' : Buffers) → SettlesFull l K W values W' → (z : Sizes) → z ≡ sizesOf l → (n : ℕ) → n ≡ shareOf (z .t) (statusIn z (W' .table)) → Reads l K W share [] accepted n W' []
   unfolding filledWith listsOf valueOf
@@ -47,14 +43,11 @@ module _ (l : Ledger) (K : Kept) (W : Buffers) (z : Sizes) (ez : z ≡ sizesOf l
   one-passed n ev t = let p = next-passed (replyTo before) (replyTo v) n (length o) ev (ap replyTo t) in (sym e ∙ p .0, p .1)
 
   module _ (ev : replyTo v ≡ (replyTo before then refuse (ltb (length o) (z .g)) 16 (z .g))) where
-    answer-registers : replyTo v ≡ answerIn l K W registers (o ∷ [])
+    pub answer-registers : replyTo v ≡ answerIn l K W registers (o ∷ [])
     unfolding settlingAnswer workNeeds fillNeeds
     answer-registers =
         answer-one l K W registers (reportIn l K) (replyTo before) e (z .g) (length o) (replyTo v) ev
         (ap (λ (n : ℕ). n ∷ []) (sheet-g (K .sheet) (sizesOf l) ∙ ap (λ (y : Sizes). y .g) (sym ez)))
-
-    pub registers-refused : (x : Refusal) → v ≡ Checked.Refused x → Reads l K W registers (o ∷ []) (replyTo (Checked.Refused x)) 0 W (o ∷ [])
-    registers-refused x t = reads-refused l K W registers (o ∷ []) v x t answer-registers
 
     module _ (t : v ≡ Checked.Fine) where
       -- what the settlement and the loop ask
@@ -72,14 +65,11 @@ module _ (l : Ledger) (K : Kept) (W : Buffers) (z : Sizes) (ez : z ≡ sizesOf l
           (ap (λ (d : List ℕ). d ∷ []) (registers-filled l K W values W' s z ez fits o o' eo))
 
   module _ (ev : replyTo v ≡ (replyTo before then refuse (ltb (length o) (z .t)) 16 (z .t))) where
-    answer-settlements : replyTo v ≡ answerIn l K W settlements (o ∷ [])
+    pub answer-settlements : replyTo v ≡ answerIn l K W settlements (o ∷ [])
     unfolding settlingAnswer workNeeds fillNeeds
     answer-settlements =
         answer-one l K W settlements (reportIn l K) (replyTo before) e (z .t) (length o) (replyTo v) ev
         (ap (λ (n : ℕ). n ∷ []) (sheet-count (K .sheet) (sizesOf l) ∙ ap (λ (y : Sizes). y .t) (sym ez)))
-
-    pub settlements-refused : (x : Refusal) → v ≡ Checked.Refused x → Reads l K W settlements (o ∷ []) (replyTo (Checked.Refused x)) 0 W (o ∷ [])
-    settlements-refused x t = reads-refused l K W settlements (o ∷ []) v x t answer-settlements
 
     module _ (t : v ≡ Checked.Fine) where
       -- what the settlement and the loop ask
@@ -97,14 +87,11 @@ module _ (l : Ledger) (K : Kept) (W : Buffers) (z : Sizes) (ez : z ≡ sizesOf l
 
 module _ (l : Ledger) (K : Kept) (W : Buffers) (z : Sizes) (ez : z ≡ sizesOf l) (lent before v : Checked) (e : replyTo lent ≡ settlingAnswer l K W) (f h : List ℕ)
     (eb : replyTo before ≡ (replyTo lent then refuse (ltb (length f) (z .a)) 16 (z .a))) (ev : replyTo v ≡ (replyTo before then refuse (ltb (length h) (z .a)) 16 (z .a))) where
-  answer-accounts : replyTo v ≡ answerIn l K W accounts (f ∷ h ∷ [])
+  pub answer-accounts : replyTo v ≡ answerIn l K W accounts (f ∷ h ∷ [])
   unfolding settlingAnswer workNeeds fillNeeds
   answer-accounts =
       answer-two l K W accounts (reportIn l K) (replyTo lent) e (z .a) (length f) (replyTo before) eb (z .a) (length h) (replyTo v) ev
       (ap (λ (n : ℕ). n ∷ n ∷ []) (sheet-a (K .sheet) (sizesOf l) ∙ ap (λ (y : Sizes). y .a) (sym ez)))
-
-  pub accounts-refused : (x : Refusal) → v ≡ Checked.Refused x → Reads l K W accounts (f ∷ h ∷ []) (replyTo (Checked.Refused x)) 0 W (f ∷ h ∷ [])
-  accounts-refused x t = reads-refused l K W accounts (f ∷ h ∷ []) v x t answer-accounts
 
   module _ (t : v ≡ Checked.Fine) where
     -- what the settlement and the loop ask

@@ -1,5 +1,4 @@
 -- The readings, call by call.
-pub mod FillLaws
 pub mod RoomLaws
 pub mod SettledLaws
 pub mod ReadLaws

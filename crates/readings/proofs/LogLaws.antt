@@ -11,12 +11,12 @@ use Rattle.admission.specs.Replies.{replyTo}
 use Rattle.ordering.proofs.Usable.{ordered}
 use Rattle.ordering.specs.Order.{Ref, globalLog}
 use Rattle.ordering.specs.Table.{blockId, countIn, rankIn, refIn, usable}
+use Rattle.plain.proofs.AnswerLaws.{then-accepted}
 use Rattle.plain.specs.Answer.{_then_, accepted, refuse}
 use Rattle.plain.specs.Plain.{lentAnswer}
 use Rattle.plain.specs.Report.{fillNeeds, filledWith, listsOf, log, reportBy, valueOf, workNeeds}
-use Rattle.readings.proofs.FillLaws.{filled-front, tabulate-front}
-use Rattle.readings.proofs.ReadLaws.{answerIn, reads-accepted, reads-refused}
-use Rattle.readings.proofs.RoomLaws.{answer-two, bounds, next-passed, then-accepted}
+use Rattle.readings.proofs.ReadLaws.{answerIn, reads-accepted}
+use Rattle.readings.proofs.RoomLaws.{answer-two, bounds, next-passed}
 use Rattle.readings.specs.Reading.{Reads, reportIn}
 use Rattle.settlement.proofs.SettleCells.{log-fits, log-front}
 use Rattle.settlement.specs.Cells.{rowsIn}
@@ -25,10 +25,10 @@ use Rattle.settlement.specs.View.{viewLog}
 use Rattle.sheets.proofs.SheetCells.{sheet-m}
 use Rattle.state.proofs.WorkLaws.{beyond-none}
 use Rattle.state.specs.State.{Kept, complete, kept, sizesOf}
+use Rattle.sums.proofs.FillLaws.{filled-front, tabulate-front}
 use Rattle.sums.proofs.SeqLaws.{length-fill}
 use Rattle.sums.specs.Seq.{fill, written}
 use Rattle.refusals.specs.declared.Checked.{Checked}
-use Rattle.refusals.specs.declared.Refusal.{Refusal}
 use Rattle.state.specs.declared.ledger.Ledger.{Ledger}
 
 -- what is lent beside the two lists
@@ -50,15 +50,12 @@ module _ (l : Ledger) (ranks : List ℕ) where
   module _ (n : ℕ) (en : n ≡ length (blocksOf l ranks)) (i k : List ℕ) (due first second v : Checked) (e : replyTo due ≡ refuse (not (complete l)) 3 0)
       (e1 : replyTo first ≡ (replyTo due then refuse (ltb (length ranks) (128 * l .loading .m)) 16 (128 * l .loading .m)))
       (e2 : replyTo second ≡ (replyTo first then refuse (ltb (length i) n) 16 n)) (e3 : replyTo v ≡ (replyTo second then refuse (ltb (length k) n) 16 n)) where
-    answer-log : replyTo v ≡ answerIn l (lentRanks ranks) noBuffers log (i ∷ k ∷ [])
+    pub answer-log : replyTo v ≡ answerIn l (lentRanks ranks) noBuffers log (i ∷ k ∷ [])
     unfolding workNeeds fillNeeds lentAnswer
     answer-log =
         answer-two l (lentRanks ranks) noBuffers log (reportIn l (lentRanks ranks)) (replyTo first)
         (e1 ∙ ap₂ _then_ e (ap (λ (m : ℕ). refuse (ltb (length ranks) (128 * m)) 16 (128 * m)) (sym (sheet-m [] (sizesOf l))) ∙ sym (then-accepted _)))
         n (length i) (replyTo second) e2 n (length k) (replyTo v) e3 (ap (λ (b : List Ref). length b ∷ length b ∷ []) log-is ∙ ap (λ (x : ℕ). x ∷ x ∷ []) (sym en))
-
-    pub log-refused : (x : Refusal) → v ≡ Checked.Refused x → Reads l (lentRanks ranks) noBuffers log (i ∷ k ∷ []) (replyTo (Checked.Refused x)) 0 noBuffers (i ∷ k ∷ [])
-    log-refused x t = reads-refused l (lentRanks ranks) noBuffers log (i ∷ k ∷ []) v x t answer-log
 
     module _ (t : v ≡ Checked.Fine) where
       passed-third : (replyTo second ≡ accepted) × (n ≤ length k)

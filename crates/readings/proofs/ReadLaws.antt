@@ -13,7 +13,6 @@ use Rattle.escrow.specs.Cells.{freeIn, heldIn}
 use Rattle.escrow.specs.Report.{shareOf}
 use Rattle.plain.specs.Answer.{Answer, accepted}
 use Rattle.plain.specs.Report.{Query, filledWith, listsOf, readAnswer, reportBy, valueOf}
-use Rattle.readings.proofs.FillLaws.{filled-front, map-tabulate, tabulate-front}
 use Rattle.readings.specs.Inner.{SettlesFull, placesIn}
 use Rattle.readings.specs.Reading.{Reads, reportIn, workLengths}
 use Rattle.settlement.proofs.CountCells.{front-at}
@@ -25,6 +24,7 @@ use Rattle.sheets.proofs.SheetCells.{sheet-a, sheet-count}
 use Rattle.state.proofs.WorkLaws.{beyond-none}
 use Rattle.state.specs.State.{Beyond, Kept, complete, sheetOf, sizesOf}
 use Rattle.ordering.specs.Table.{countIn}
+use Rattle.sums.proofs.FillLaws.{filled-front, map-tabulate, tabulate-front}
 use Rattle.sums.proofs.TestLaws.{pick-false, pick-true}
 use Rattle.sums.specs.Seq.{fill, tabulate, written}
 use Rattle.refusals.specs.declared.Checked.{Checked}
@@ -67,19 +67,20 @@ module _ (l : Ledger) (K : Kept) (W : Buffers) (values : List ℕ) (W' : Buffers
     statuses-are : statusIn (sizesOf l) (W' .table) ≡ status (sheetOf l K) R (countIn view)
     statuses-are = s .settled .statuses ∙ ap (status (sheetOf l K) R) (sym ev)
 
+    -- an amount of each account, from the cells
+    amounts-filled : (inCells : Sizes → ℕ → ℕ) (amount : View → ℕ → ℕ) → ((i : ℕ) → inCells (sizesOf l) i ≡ amount (countIn view) i) → (o o' : List ℕ) → o' ≡ written o 0 (z .a) (inCells z)
+        → o' ≡ fill (tabulate (sheetOf l K .a) (amount v)) o
+    amounts-filled inCells amount h o o' e =
+        filled-front o (l .loading .a) _ (amount v) o' (e ∙ ap (λ (y : Sizes). written o 0 (y .a) (inCells y)) ez) (λ i u. h i ∙ ap (λ (w : View). amount w i) ev)
+        ∙ ap (λ (n : ℕ). fill (tabulate n (amount v)) o) (sym (sheet-a (K .sheet) (sizesOf l)))
+
     pub free-filled : (o o' : List ℕ) → o' ≡ written o 0 (z .a) (freeIn (K .sheet) z (K .cites) (K .good) view (W' .table)) → o' ≡ fill (reportIn l K .free) o
     unfolding reportIn reportBy
-    free-filled o o' e =
-        filled-front o (l .loading .a) _ (free (sheetOf l K) R v) o' (e ∙ ap (λ (y : Sizes). written o 0 (y .a) (freeIn (K .sheet) y (K .cites) (K .good) view (W' .table))) ez)
-        (λ i h. free-in (K .sheet) (sizesOf l) (K .ranks) (K .cites) (K .good) view (W' .table) statuses-are i ∙ ap (λ (u : View). free (sheetOf l K) R u i) ev)
-        ∙ ap (λ (n : ℕ). fill (tabulate n (free (sheetOf l K) R v)) o) (sym (sheet-a (K .sheet) (sizesOf l)))
+    free-filled = amounts-filled (λ y. freeIn (K .sheet) y (K .cites) (K .good) view (W' .table)) (free (sheetOf l K) R) (free-in (K .sheet) (sizesOf l) (K .ranks) (K .cites) (K .good) view (W' .table) statuses-are)
 
     pub held-filled : (o o' : List ℕ) → o' ≡ written o 0 (z .a) (heldIn (K .sheet) z (K .cites) (K .good) view (W' .table)) → o' ≡ fill (reportIn l K .held) o
     unfolding reportIn reportBy
-    held-filled o o' e =
-        filled-front o (l .loading .a) _ (held (sheetOf l K) R v) o' (e ∙ ap (λ (y : Sizes). written o 0 (y .a) (heldIn (K .sheet) y (K .cites) (K .good) view (W' .table))) ez)
-        (λ i h. held-in (K .sheet) (sizesOf l) (K .ranks) (K .cites) (K .good) view (W' .table) statuses-are i ∙ ap (λ (u : View). held (sheetOf l K) R u i) ev)
-        ∙ ap (λ (n : ℕ). fill (tabulate n (held (sheetOf l K) R v)) o) (sym (sheet-a (K .sheet) (sizesOf l)))
+    held-filled = amounts-filled (λ y. heldIn (K .sheet) y (K .cites) (K .good) view (W' .table)) (held (sheetOf l K) R) (held-in (K .sheet) (sizesOf l) (K .ranks) (K .cites) (K .good) view (W' .table) statuses-are)
 
   pub registers-filled : l .loading .g ≤ length values → (o o' : List ℕ) → o' ≡ written o 0 (z .g) (λ j. getD values j 0) → o' ≡ fill (reportIn l K .registers) o
   unfolding reportIn reportBy

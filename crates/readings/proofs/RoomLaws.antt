@@ -11,8 +11,8 @@ use native.Mathlib.Omega.{arith}
 use Rattle.admission.specs.Replies.{replyTo}
 use Rattle.frames.proofs.HeaderLaws.{HeaderBounds, header-bounds}
 use Rattle.frames.proofs.StepLaws.{due-header-ok}
-use Rattle.plain.proofs.AnswerLaws.{lent-enough, refuse-false, refuse-pass, refuse-true, then-go, then-pass, then-stop}
-use Rattle.plain.specs.Answer.{Answer, _then_, accepted, noOffer, refuse, refused}
+use Rattle.plain.proofs.AnswerLaws.{lent-enough, refuse-false, refuse-pass, refuse-true, then-accepted, then-assoc, then-go, then-pass, then-stop}
+use Rattle.plain.specs.Answer.{Answer, _then_, accepted, refuse, refused}
 use Rattle.plain.specs.Plain.{lentAnswer}
 use Rattle.plain.specs.Report.{Query, Report, accounts, fillNeeds, log, readAnswer, registers, settleNeeds, settlements, share, workNeeds}
 use Rattle.readings.specs.Inner.{settlingAnswer}
@@ -26,21 +26,9 @@ use Rattle.refusals.specs.declared.Refusal.{Refusal}
 use Rattle.state.specs.declared.ledger.Ledger.{Ledger}
 use Rattle.state.specs.declared.lengths.Lengths.{Lengths}
 
--- ---- answers one after the other
+-- ---- buffers lent before others
 
-then-assoc : (a b c : Answer) → ((a then b) then c) ≡ (a then (b then c))
-unfolding _then_
-then-assoc accepted b c = refl
-then-assoc (refused n p) b c = refl
-then-assoc noOffer b c = refl
-
-pub then-accepted : (a : Answer) → (a then accepted) ≡ a
-unfolding _then_
-then-accepted accepted = refl
-then-accepted (refused n p) = refl
-then-accepted noOffer = refl
-
-lent-append : (needs lent needs' lent' : List ℕ) → length needs ≡ length lent → (lentAnswer needs lent then lentAnswer needs' lent') ≡ lentAnswer (needs ++ needs') (lent ++ lent')
+pub lent-append : (needs lent needs' lent' : List ℕ) → length needs ≡ length lent → (lentAnswer needs lent then lentAnswer needs' lent') ≡ lentAnswer (needs ++ needs') (lent ++ lent')
 unfolding lentAnswer _then_
 lent-append [] [] needs' lent' e = refl
 lent-append [] (k ∷ lent) needs' lent' e = absurd (omega arith)

@@ -24,6 +24,10 @@ pub rows-in : (C : Cells) → rowsBy (engineIn C) ≡ rowsIn (C .ranks) (C .cite
 unfolding pastIn historyIn rowsOf rowsIn
 rows-in C = refl
 
+-- an instance has at most 128 blocks
+pub heights-most : (C : Cells) (j : ℕ) → heightsIn C j ≤ 128
+heights-most C j = omega (arith, climb-le (rankIn (C .ranks) j) (min (countIn (C .heights) j) 128))
+
 module _ (m : ℕ) (small : m ≤ 16) (C : Cells) (room : Roomy m C) (b : Values) (there : b .instance < m)
     (space : heightsIn C (b .instance) < 128) (above : prior (rankIn (C .ranks) (b .instance)) (heightsIn C (b .instance)) < b .rank) where
   abbrev i : ℕ
@@ -31,9 +35,6 @@ module _ (m : ℕ) (small : m ≤ 16) (C : Cells) (room : Roomy m C) (b : Values
 
   abbrev h : ℕ
   h = heightsIn C (b .instance)
-
-  short : (j : ℕ) → heightsIn C j ≤ 128
-  short j = omega (arith, climb-le (rankIn (C .ranks) j) (min (countIn (C .heights) j) 128))
 
   -- ---- ranks and heights
 
@@ -104,9 +105,9 @@ module _ (m : ℕ) (small : m ≤ 16) (C : Cells) (room : Roomy m C) (b : Values
   store-grown = record {
     more = height-new;
     others = λ j l e. height-other j e;
-    old-rank = λ j n l u. unfold storedIn in rank-old j n (omega (arith, short j)) (own-below j n u);
-    old-entry = λ j n e l u k. entry-old j n e (omega arith) (omega (arith, short j)) (own-below j n u);
-    old-cell = λ j p l u. cell-old j p (omega (arith, short j)) (λ q. omega (arith, ap (heightsIn C) q));
+    old-rank = λ j n l u. unfold storedIn in rank-old j n (omega (arith, heights-most C j)) (own-below j n u);
+    old-entry = λ j n e l u k. entry-old j n e (omega arith) (omega (arith, heights-most C j)) (own-below j n u);
+    old-cell = λ j p l u. cell-old j p (omega (arith, heights-most C j)) (λ q. omega (arith, ap (heightsIn C) q));
     new-rank = unfold storedIn in rank-new;
     new-entry = λ e k. entry-new e (omega arith);
     new-cell = cell-new;

@@ -15,12 +15,12 @@ use Rattle.plain.proofs.Admits.{Admits, admitted}
 use Rattle.plain.proofs.AnswerLaws.{accepted-of}
 use Rattle.plain.proofs.Follow.{block-accepted}
 use Rattle.state.proofs.Judging.{judging-new, judging-old, judging-past}
-use Rattle.state.proofs.Grows.{store-grown}
+use Rattle.state.proofs.Grows.{heights-most, store-grown}
 use Rattle.plain.specs.Answer.{accepted, isAccepted}
 use Rattle.state.specs.Cells.{cellsOffered, Cells, heightsIn, pastIn, storedIn, takenIn}
 use Rattle.plain.proofs.Engine.{Answered, Grown, Taken, offer}
 use Rattle.plain.specs.Plain.{answer, lastRank}
-use Rattle.ordering.proofs.Usable.{climb-le, climb-zero}
+use Rattle.ordering.proofs.Usable.{climb-zero}
 use Rattle.ordering.specs.Table.{climb, countIn, prior, rankIn}
 use Rattle.sums.proofs.TestLaws.{pick-false, pick-true}
 use Rattle.state.proofs.Engine.{Roomy, engineIn}
@@ -41,7 +41,7 @@ unfolding pastIn historyIn
 height-in C j = refl
 
 height-small : (C : Cells) (j : ℕ) → engineIn C .past .height j ≤ 128
-height-small C j = omega (arith, height-in C j, climb-le (rankIn (C .ranks) j) (min (countIn (C .heights) j) 128))
+height-small C j = rw (height-in C j) (heights-most C j)
 
 module _ (S : Sheet) (Q : ProperSheet S) (C : Cells) (room : Roomy (S .m) C) (o : Offer) (e : answer S (pastIn C) o ≡ accepted) where
   A : Admits S (engineIn C .past) (offered S o)

@@ -1,8 +1,8 @@
 -- What is left of the working buffers beyond their use.
 -- Assumes nothing.
-use Prim.Native.Nat.{_*_, _+_, _/_, _<_, _≤_, suc, zero, ℕ}
+use Prim.Native.Nat.{_*_, _≤_, ℕ}
 use lib.ListN.{drop, length, length-map}
-use mathlib.Core.List.{List, [], _∷_, map}
+use mathlib.Core.List.{List, map}
 use mathlib.Core.Path.{_∙_, _≡_, ap, refl}
 use native.Mathlib.Omega.{arith}
 use Rattle.ordering.proofs.LogSum.{log-size}
@@ -13,20 +13,10 @@ use Rattle.settlement.specs.View.{Rows, View, viewLog}
 use Rattle.sheets.proofs.SheetCells.{sheet-m}
 use Rattle.sheets.specs.Sheet.{sheetIn}
 use Rattle.state.specs.State.{Beyond}
+use Rattle.sums.proofs.FillLaws.{drop-fill, drop-written}
 use Rattle.sums.proofs.LoopLaws.{sum-most}
-use Rattle.sums.proofs.SeqLaws.{length-fill, length-tabulate, length-written, written-front}
-use Rattle.sums.specs.Seq.{fill, tabulate, written}
+use Rattle.sums.proofs.SeqLaws.{length-fill, length-written}
 use Rattle.sheets.specs.declared.sheet.Sizes.{Sizes}
-
-pub drop-fill : (l d : List ℕ) (k : ℕ) → length l ≤ k → drop k (fill l d) ≡ drop k d
-unfolding fill
-drop-fill [] d k h = refl
-drop-fill (x ∷ l) [] k h = refl
-drop-fill (x ∷ l) (y ∷ d) zero h = absurd (omega arith)
-drop-fill (x ∷ l) (y ∷ d) (suc k) h = drop-fill l d k (omega arith)
-
-pub drop-written : (l : List ℕ) (n : ℕ) (f : ℕ → ℕ) → drop n (written l 0 n f) ≡ drop n l
-drop-written l n f = ap (drop n) (written-front l n f) ∙ drop-fill (tabulate n f) l n (omega (arith, length-tabulate n f))
 
 pub beyond-none : (z : Sizes) (W : Buffers) → Beyond z W W
 beyond-none z W = record { counts = refl; table = refl; order = refl; counts-length = refl; table-length = refl; order-length = refl }

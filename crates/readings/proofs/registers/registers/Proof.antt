@@ -2,7 +2,8 @@ use borrow.Author.Needs.{needs}
 use Rattle.state.specs.State.{kept}
 use Rattle.settlement.specs.Tables.{buffers}
 use mathlib.Core.List.{[]}
-use Rattle.readings.proofs.CallLaws.{registers-passed, registers-refused, registers-told}
+use Rattle.readings.proofs.CallLaws.{answer-registers, registers-passed, registers-told}
+use Rattle.readings.proofs.ReadLaws.{reads-refused}
 use Rattle.readings.proofs.registers.registers.Statement.{statement}
 use Rattle.readings.proofs.registers.registers.Tie as tie
 
@@ -13,7 +14,7 @@ fill-registers-requires : tie.Need-fill-registers-requires
 fill-registers-requires c κs = let p = registers-passed (c .before .before .before .before .before .before .before .before .before .before .before .before .before .before .before .before .before .before .before .before .before .before .before .before .before .before .before .before .args .ledger) (kept (c .before .before .before .before .before .before .before .before .before .before .before .before .before .before .before .before .before .before .before .before .before .before .before .before .before .before .before .before .args .sheet .now) (c .before .before .before .before .before .before .before .before .before .before .before .before .before .before .before .before .before .before .before .before .before .before .before .before .before .before .before .before .args .ranks .now) [] (c .before .before .before .before .before .before .before .before .before .before .before .before .before .before .before .before .before .before .before .before .before .before .before .before .before .before .before .before .args .cites .now) (c .before .before .before .before .before .before .before .before .before .before .before .before .before .before .before .before .before .before .before .before .before .before .before .before .before .before .before .before .args .good .now)) (buffers (c .before .before .before .before .before .before .before .before .before .before .before .before .before .before .before .before .before .before .before .before .before .before .before .before .before .before .before .before .args .counts .now) (c .before .before .before .before .before .before .before .before .before .before .before .before .before .before .before .before .before .before .before .before .before .before .before .before .before .before .before .before .args .table .now) (c .before .before .before .before .before .before .before .before .before .before .before .before .before .before .before .before .before .before .before .before .before .before .before .before .before .before .before .before .args .order .now)) (c .before .before .before .before .before .before .before .before .before .before .before .before .before .before .before .before .before .before .before .sizes .result) (c .before .before .before .before .before .before .before .before .before .before .before .before .before .before .before .before .before .before .before .sizes .ensures) (c .before .before .before .before .before .before .before .before .before .before .before .before .before .before .before .check-buffers .result) (c .before .before .before .before .before .before .before .before .before .before .before .before .before .check-next .result) (c .before .before .before .before .before .before .before .before .before .before .before .before .before .before .before .check-buffers .ensures) (c .before .before .before .before .before .before .before .before .before .before .before .before .before .before .before .before .before .before .before .before .before .before .before .before .before .before .before .before .args .registers .now) (c .before .before .before .before .before .before .before .before .before .before .before .before .before .check-next .ensures) (c .before .before .before .before .before .before .before .before .before .before .before .enum-told .given .1) in (p .1, p .2)
 
 returns : tie.Need-returns
-returns c = registers-refused (c .before .before .before .before .before .before .before .before .before .before .before .before .before .before .before .before .before .before .args .ledger) (kept (c .before .before .before .before .before .before .before .before .before .before .before .before .before .before .before .before .before .before .args .sheet .now) (c .before .before .before .before .before .before .before .before .before .before .before .before .before .before .before .before .before .before .args .ranks .now) [] (c .before .before .before .before .before .before .before .before .before .before .before .before .before .before .before .before .before .before .args .cites .now) (c .before .before .before .before .before .before .before .before .before .before .before .before .before .before .before .before .before .before .args .good .now)) (buffers (c .before .before .before .before .before .before .before .before .before .before .before .before .before .before .before .before .before .before .args .counts .now) (c .before .before .before .before .before .before .before .before .before .before .before .before .before .before .before .before .before .before .args .table .now) (c .before .before .before .before .before .before .before .before .before .before .before .before .before .before .before .before .before .before .args .order .now)) (c .before .before .before .before .before .before .before .before .before .sizes .result) (c .before .before .before .before .before .before .before .before .before .sizes .ensures) (c .before .before .before .before .before .check-buffers .result) (c .before .before .before .check-next .result) (c .before .before .before .before .before .check-buffers .ensures) (c .before .before .before .before .before .before .before .before .before .before .before .before .before .before .before .before .before .before .args .registers .now) (c .before .before .before .check-next .ensures) _ (c .before .r .given .1)
+returns c = reads-refused _ _ _ _ _ _ _ (c .before .r .given .1) (answer-registers (c .before .before .before .before .before .before .before .before .before .before .before .before .before .before .before .before .before .before .args .ledger) (kept (c .before .before .before .before .before .before .before .before .before .before .before .before .before .before .before .before .before .before .args .sheet .now) (c .before .before .before .before .before .before .before .before .before .before .before .before .before .before .before .before .before .before .args .ranks .now) [] (c .before .before .before .before .before .before .before .before .before .before .before .before .before .before .before .before .before .before .args .cites .now) (c .before .before .before .before .before .before .before .before .before .before .before .before .before .before .before .before .before .before .args .good .now)) (buffers (c .before .before .before .before .before .before .before .before .before .before .before .before .before .before .before .before .before .before .args .counts .now) (c .before .before .before .before .before .before .before .before .before .before .before .before .before .before .before .before .before .before .args .table .now) (c .before .before .before .before .before .before .before .before .before .before .before .before .before .before .before .before .before .before .args .order .now)) (c .before .before .before .before .before .before .before .before .before .sizes .result) (c .before .before .before .before .before .before .before .before .before .sizes .ensures) (c .before .before .before .before .before .check-buffers .result) (c .before .before .before .check-next .result) (c .before .before .before .before .before .check-buffers .ensures) (c .before .before .before .before .before .before .before .before .before .before .before .before .before .before .before .before .before .before .args .registers .now) (c .before .before .before .check-next .ensures))
 
 returns-2 : tie.Need-returns-2
 returns-2 c = registers-told (c .before .before .before .before .before .before .before .before .before .before .before .before .before .before .before .before .before .before .before .before .before .before .before .before .before .before .before .before .before .before .before .args .ledger) (kept (c .before .before .before .before .before .before .before .before .before .before .before .before .before .before .before .before .before .before .before .before .before .before .before .before .before .before .before .before .before .before .before .args .sheet .now) (c .before .before .before .before .before .before .before .before .before .before .before .before .before .before .before .before .before .before .before .before .before .before .before .before .before .before .before .before .before .before .before .args .ranks .now) [] (c .before .before .before .before .before .before .before .before .before .before .before .before .before .before .before .before .before .before .before .before .before .before .before .before .before .before .before .before .before .before .before .args .cites .now) (c .before .before .before .before .before .before .before .before .before .before .before .before .before .before .before .before .before .before .before .before .before .before .before .before .before .before .before .before .before .before .before .args .good .now)) (buffers (c .before .before .before .before .before .before .before .before .before .before .before .before .before .before .before .before .before .before .before .before .before .before .before .before .before .before .before .before .before .before .before .args .counts .now) (c .before .before .before .before .before .before .before .before .before .before .before .before .before .before .before .before .before .before .before .before .before .before .before .before .before .before .before .before .before .before .before .args .table .now) (c .before .before .before .before .before .before .before .before .before .before .before .before .before .before .before .before .before .before .before .before .before .before .before .before .before .before .before .before .before .before .before .args .order .now)) (c .before .before .before .before .before .before .before .before .before .before .before .before .before .before .before .before .before .before .before .before .before .before .sizes .result) (c .before .before .before .before .before .before .before .before .before .before .before .before .before .before .before .before .before .before .before .before .before .before .sizes .ensures) (c .before .before .before .before .before .before .before .before .before .before .before .before .before .before .before .before .before .before .check-buffers .result) (c .before .before .before .before .before .before .before .before .before .before .before .before .before .before .before .before .check-next .result) (c .before .before .before .before .before .before .before .before .before .before .before .before .before .before .before .before .before .before .check-buffers .ensures) (c .before .before .before .before .before .before .before .before .before .before .before .before .before .before .before .before .before .before .before .before .before .before .before .before .before .before .before .before .before .before .before .args .registers .now) (c .before .before .before .before .before .before .before .before .before .before .before .before .before .before .before .before .check-next .ensures) (c .before .before .before .before .before .before .before .before .before .before .before .before .before .before .enum-told .given .1) (c .before .before .before .before .before .before .before .before .before .before .settle-full .result) _ (c .before .before .before .before .before .before .before .before .before .before .settle-full .ensures) (c .before .before .before .before .before .before .before .before .before .before .settle-full .ok .1 .0 .1) _ (c .before .before .fill-registers .ensures)
