@@ -45,21 +45,44 @@ use Rattle.refusals.specs.declared.Checked.{Checked}
 use Rattle.refusals.specs.declared.Refusal.{Refusal}
 use Rattle.refusals.specs.declared.Refusal.the-variants.{KindNotDue}
 
--- what is not accepted
-pub turned-away : {l : Ledger} {K : Kept} {W : Buffers} {o : Offer} {a : code.Answer} {u : Bool} → replyOf a ≡ answerFrom l K o → u ≡ isAccepted (replyOf a) → not u ≡ true
-    → Offers l K W o (record { answer = a; ledger = l }) K W
-unfolding cellsOffered
-turned-away {l} {K} {W} {o} {a} {u} e f h = record {
-  answered = e;
-  loading = refl;
-  sheet = refl;
-  cells = sym (pick-false (isAccepted (answerFrom l K o)) _ _ (ap isAccepted (sym e) ∙ sym f ∙ not-true u h));
-  quiet = λ t. refl;
-  beyond = beyond-none (sizesOf l) W;
-}
+-- the answer does not look at recorded outcomes
+unfoldable pub unjudged : Kept → Kept
+unjudged K = kept (K .sheet) (K .ranks) (K .cuts) (K .cites) []
 
-pub accepts : (l : Ledger) (K : Kept) (o : Offer) (a : code.Answer) {u : Bool} → replyOf a ≡ answerFrom l K o → u ≡ isAccepted (replyOf a) → not u ≡ false → accepted ≡ answerFrom l K o
-accepts l K o a {u} e f h = sym (accepted-of (replyOf a) (sym f ∙ not-false u h)) ∙ e
+-- an offer of either kind and the answer to it: what the call leaves
+module _ (l : Ledger) (K : Kept) (W : Buffers) (o : Offer) (a : code.Answer) {u : Bool} (q : replyOf a ≡ answerFrom l (unjudged K) o) (f : u ≡ isAccepted (replyOf a)) where
+  answer-is : replyOf a ≡ answerFrom l K o
+  unfolding answerFrom pastIn unjudged
+  answer-is = q
+
+  pub not-taken : not u ≡ true → Offers l K W o (record { answer = a; ledger = l }) K W
+  unfolding cellsOffered
+  not-taken h = record {
+    answered = answer-is;
+    loading = refl;
+    sheet = refl;
+    cells = sym (pick-false (isAccepted (answerFrom l K o)) _ _ (ap isAccepted (sym answer-is) ∙ sym f ∙ not-true u h));
+    quiet = λ t. refl;
+    beyond = beyond-none (sizesOf l) W;
+  }
+
+  module _ (h : not u ≡ false) where
+    accepts : accepted ≡ answerFrom l K o
+    accepts = sym (accepted-of (replyOf a) (sym f ∙ not-false u h)) ∙ answer-is
+
+    taken : {l' : Ledger} {K' : Kept} {W' : Buffers} → K' .sheet ≡ K .sheet → Takes l K W (offered (sheetOf l K) o) l' K' W' → Offers l K W o (record { answer = a; ledger = l' }) K' W'
+    unfolding cellsOffered
+    taken s t = record {
+      answered = answer-is;
+      loading = t .loading;
+      sheet = s;
+      cells = t .cells ∙ sym (pick-true (isAccepted (answerFrom l K o)) _ _ (ap isAccepted (sym accepts)));
+      quiet = λ n. absurd (never (ap isAccepted accepts ∙ n));
+      beyond = t .beyond;
+    }
+      where
+        never : true ≡ false → ⊥
+        never z = let w : _≡_ {A = ℕ} 0 1 = cc in omega arith
 
 -- before the sheet is complete nothing is accepted
 never-3 : (p : ℕ) → refused 3 p ≡ accepted → ⊥
@@ -132,42 +155,15 @@ module _ (l : Ledger) (K : Kept) (lent : List ℕ) (b : Values) (e : accepted �
     admitted = then-pass _ _ (then-pass _ _ (then-pass _ _ passes .1) .1) .1;
   }
 
--- what is accepted
-pub accepted-offers : {l : Ledger} {K : Kept} {W : Buffers} {o : Offer} {a : code.Answer} {l' : Ledger} {K' : Kept} {W' : Buffers} → replyOf a ≡ answerFrom l K o → accepted ≡ answerFrom l K o → K' .sheet ≡ K .sheet
-    → Takes l K W (offered (sheetOf l K) o) l' K' W' → Offers l K W o (record { answer = a; ledger = l' }) K' W'
-unfolding cellsOffered
-accepted-offers {l} {K} {W} {o} {a} {l'} {K'} {W'} q e s t = record {
-  answered = q;
-  loading = t .loading;
-  sheet = s;
-  cells = t .cells ∙ sym (pick-true (isAccepted (answerFrom l K o)) _ _ (ap isAccepted (sym e)));
-  quiet = λ n. absurd (never (ap isAccepted e ∙ n));
-  beyond = t .beyond;
-}
-  where
-    never : true ≡ false → ⊥
-    never z = let w : _≡_ {A = ℕ} 0 1 = cc in omega arith
-
--- the answer does not look at recorded outcomes
-unfoldable pub unjudged : Kept → Kept
-unjudged K = kept (K .sheet) (K .ranks) (K .cuts) (K .cites) []
-
-pub outcomes-apart : (l : Ledger) (K : Kept) (o : Offer) → answerFrom l (unjudged K) o ≡ answerFrom l K o
-unfolding answerFrom pastIn unjudged
-outcomes-apart l K o = refl
-
 -- a block's values whose answer accepts: they may be taken, and once they are, the call has done what it promises
 module _ (l : Ledger) (K : Kept) (W : Buffers) (B : Block) (cs : List ℕ) (a : code.Answer) {u : Bool}
     (q : replyOf a ≡ answerFrom l (unjudged K) (values (lengthsOf K W) (valuesWith B cs))) (f : u ≡ isAccepted (replyOf a)) where
   abbrev o : Offer
   o = values (lengthsOf K W) (valuesWith B cs)
 
-  pub not-taken : not u ≡ true → Offers l K W o (record { answer = a; ledger = l }) K W
-  not-taken = turned-away (q ∙ outcomes-apart l K o) f
-
   module _ (go : not u ≡ false) (c : Citations) (held : citesIn c ≡ take 32 cs) where
     ok : accepted ≡ answerFrom l K o
-    ok = accepts l K o a (q ∙ outcomes-apart l K o) f go
+    ok = accepts l K W o a q f go
 
     said : citesIn c ≡ cs
     unfolding valuesWith
@@ -178,7 +174,7 @@ module _ (l : Ledger) (K : Kept) (W : Buffers) (B : Block) (cs : List ℕ) (a : 
     may-take long short = rw said (takeable l K (lengthsOf K W) (valuesWith B cs) ok W refl long short)
 
     pub was-taken : {l' : Ledger} {K' : Kept} {W' : Buffers} → K' .sheet ≡ K .sheet → Takes l K W (valuesOf B c) l' K' W' → Offers l K W o (record { answer = a; ledger = l' }) K' W'
-    was-taken s t = accepted-offers (q ∙ outcomes-apart l K o) ok s (rw said at t)
+    was-taken s t = taken l K W o a q f go s (rw said at t)
 
 -- ---- frames
 
@@ -250,12 +246,9 @@ module _ (l : Ledger) (K : Kept) (W : Buffers) (bytes : List ℕ) (at : ℕ) (a 
   abbrev o' : Offer
   o' = frame (lengthsOf K W) bytes at
 
-  pub frame-not-taken : not u ≡ true → Offers l K W o' (record { answer = a; ledger = l }) K W
-  frame-not-taken = turned-away (q ∙ outcomes-apart l K o') f
-
   module _ (go : not u ≡ false) (b : List ℕ) (B : Block) (c : Citations) (eq : b ≡ bodyOf (frameAt bytes at) bytes) (eb : B ≡ frames.blockOf b (l .loading .m)) (ec : citesIn c ≡ take 32 (citesOf b (l .loading .m))) where
     ok' : accepted ≡ answerFrom l K o'
-    ok' = accepts l K o' a (q ∙ outcomes-apart l K o') f go
+    ok' = accepts l K W o' a q f go
 
     read-is : valuesOf B c ≡ valuesIn (bodyOf (frameAt bytes at) bytes) (l .loading .m)
     read-is = values-read (bodyOf (frameAt bytes at) bytes) 0 (l .loading .m) B c (frame-fine l K (lengthsOf K W) bytes at ok') (rw eq at eb) (rw eq at ec)
@@ -264,4 +257,4 @@ module _ (l : Ledger) (K : Kept) (W : Buffers) (bytes : List ℕ) (at : ℕ) (a 
     frame-may-take long = rw read-is (frame-takeable l K (lengthsOf K W) bytes at ok' W refl long)
 
     pub frame-was-taken : {l' : Ledger} {K' : Kept} {W' : Buffers} → K' .sheet ≡ K .sheet → Takes l K W (valuesOf B c) l' K' W' → Offers l K W o' (record { answer = a; ledger = l' }) K' W'
-    frame-was-taken s t = accepted-offers (q ∙ outcomes-apart l K o') ok' s (rw (read-is, ← frame-offers l K (lengthsOf K W) bytes at ok') at t)
+    frame-was-taken s t = taken l K W o' a q f go s (rw (read-is, ← frame-offers l K (lengthsOf K W) bytes at ok') at t)

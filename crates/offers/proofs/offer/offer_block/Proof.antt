@@ -18,7 +18,7 @@ same-length-3 c = refl
 
 returns : tie.Need-returns
 unfolding unjudged
-returns c = let s = c .before .before .before .before .before .before .before .before .before .before .before .before .before .before .before .args in let K = kept (s .sheet .now) (s .ranks .now) (s .cuts .now) (s .cites .now) (s .good .now) in let W = buffers (s .counts .now) (s .table .now) (s .order .now) in not-taken (s .ledger) K W (s .block) (s .citations .now) (c .before .before .values-verdict .result) (c .before .before .values-verdict .ensures) (c .before .is-accepted .ensures) (c .if1 .taken)
+returns c = let s = c .before .before .before .before .before .before .before .before .before .before .before .before .before .before .before .args in let K = kept (s .sheet .now) (s .ranks .now) (s .cuts .now) (s .cites .now) (s .good .now) in let W = buffers (s .counts .now) (s .table .now) (s .order .now) in not-taken (s .ledger) K W _ (c .before .before .values-verdict .result) (c .before .before .values-verdict .ensures) (c .before .is-accepted .ensures) (c .if1 .taken)
 
 take-block-requires : tie.Need-take-block-requires
 unfolding unjudged

@@ -1,6 +1,6 @@
 use borrow.Author.Needs.{needs}
 use mathlib.Core.Path.{refl}
-use Rattle.offers.proofs.OfferLaws.{frame-not-taken, frame-may-take, frame-was-taken, unjudged}
+use Rattle.offers.proofs.OfferLaws.{not-taken, frame-may-take, frame-was-taken, unjudged}
 use Rattle.sums.proofs.SeqLaws.{array-length}
 use Rattle.state.specs.State.{kept}
 use Rattle.settlement.specs.Tables.{buffers}
@@ -18,7 +18,7 @@ same-length-3 c = refl
 
 returns : tie.Need-returns
 unfolding unjudged
-returns c = let s = c .before .before .before .before .before .before .before .before .before .before .before .before .before .before .before .args in let K = kept (s .sheet .now) (s .ranks .now) (s .cuts .now) (s .cites .now) (s .good .now) in let W = buffers (s .counts .now) (s .table .now) (s .order .now) in frame-not-taken (s .ledger) K W (s .bytes .now) (s .at) (c .before .before .frame-verdict .result) (c .before .before .frame-verdict .ensures) (c .before .is-accepted .ensures) (c .if1 .taken)
+returns c = let s = c .before .before .before .before .before .before .before .before .before .before .before .before .before .before .before .args in let K = kept (s .sheet .now) (s .ranks .now) (s .cuts .now) (s .cites .now) (s .good .now) in let W = buffers (s .counts .now) (s .table .now) (s .order .now) in not-taken (s .ledger) K W _ (c .before .before .frame-verdict .result) (c .before .before .frame-verdict .ensures) (c .before .is-accepted .ensures) (c .if1 .taken)
 
 take-block-requires : tie.Need-take-block-requires
 unfolding unjudged
