@@ -1,12 +1,10 @@
 -- Lists as long as any sheet needs: each reading of a complete ledger is accepted, stands at the front of its list, and all together are the report's text.
 -- Assumes nothing.
 use Prim.Native.Nat.{_+_, _≤_, ℕ}
-use borrow.Author.Tests.{le-ltb}
-use lib.ListN.{drop, length, length-map, take}
-use lib.Seq.{take-at}
+use lib.ListN.{length, length-map, take}
 use mathlib.Core.Bool.{Bool, not, true}
 use mathlib.Core.List.{List, [], _++_, _∷_, map}
-use mathlib.Core.Path.{_∙_, _≡_, ap, ap₂, fun-ext, refl, sym}
+use mathlib.Core.Path.{_∙_, _≡_, ap, ap₂, fun-ext, sym}
 use native.Mathlib.Omega.{arith}
 use Rattle.closing.proofs.RegisterLaws.{registers-count}
 use Rattle.closing.specs.Closing.{Ample, Closes}
@@ -28,20 +26,18 @@ use Rattle.settlement.specs.View.{viewLog}
 use Rattle.sheets.proofs.SheetCells.{sheet-a, sheet-count, sheet-g, sheet-m}
 use Rattle.sheets.specs.Sheet.{Sheet, txCount}
 use Rattle.sheets.specs.declared.sheet.Sizes.{Sizes}
+use Rattle.state.proofs.LengthLaws.{lent-end, lent-next}
 use Rattle.state.proofs.WorkLaws.{beyond-then}
 use Rattle.state.specs.State.{Beyond, Kept, complete, sheetOf, sizesOf}
 use Rattle.state.specs.declared.ledger.Ledger.{Ledger}
-use Rattle.sums.proofs.SeqLaws.{fill-room, length-tabulate}
+use Rattle.sums.proofs.FillLaws.{take-fill}
+use Rattle.sums.proofs.SeqLaws.{length-tabulate}
 use Rattle.sums.proofs.TestLaws.{pick-true}
 use Rattle.sums.specs.Seq.{fill}
 use Rattle.text.proofs.TailLaws.{tail-of}
 use Rattle.text.proofs.WroteLaws.{wrote-as}
 use Rattle.text.specs.Tail.{listsText}
 use Rattle.text.specs.Wrote.{Wrote}
-
--- a list that fits stands at the front of what it was written over
-take-fill : (x d : List ℕ) (n : ℕ) → length x ≡ n → n ≤ length d → take n (fill x d) ≡ x
-take-fill x d n e h = ap (take n) (fill-room x d (omega arith)) ∙ take-at x (drop (length x) d) n e
 
 front-one : (x d x' : List ℕ) (n : ℕ) → x' ∷ [] ≡ fill x d ∷ [] → length x ≡ n → n ≤ length d → take n x' ∷ [] ≡ x ∷ []
 front-one x d x' n e k h =
@@ -54,14 +50,6 @@ front-two x y d e x' y' n q kx ky hd he =
     let ex : x' ≡ fill x d = cc in
     let ey : y' ≡ fill y e = cc in
     ap₂ (λ (f g : List ℕ). f ∷ g ∷ []) (ap (take n) ex ∙ take-fill x d n kx hd) (ap (take n) ey ∙ take-fill y e n ky he)
-
-lent-more : (n k : ℕ) (needs lent : List ℕ) → n ≤ k → lentAnswer needs lent ≡ accepted → lentAnswer (n ∷ needs) (k ∷ lent) ≡ accepted
-unfolding lentAnswer
-lent-more n k needs lent h e = then-go _ _ _ (refuse-false _ 16 n (le-ltb k n h)) e
-
-lent-none : lentAnswer [] [] ≡ accepted
-unfolding lentAnswer
-lent-none = refl
 
 -- what an accepted call tells
 told : (c : Bool) (S : Sheet) (r : Report) (q : Query) (work : List ℕ) (outs : List (List ℕ)) (a : Answer) (n : ℕ) (outs' : List (List ℕ))
@@ -94,8 +82,8 @@ module _ (l : Ledger) (whole : complete l ≡ true) where
     unfolding readAnswer workNeeds fillNeeds
     log-fine h i s ei es =
         then-go _ _ _ (refuse-false _ 3 0 (ap not whole))
-        (lent-more _ _ _ _ (omega (arith, sheet-m [] (sizesOf l), header .instances))
-        (lent-more _ _ _ _ (omega (arith, log-most Own)) (lent-more _ _ _ _ (omega (arith, log-most Own)) lent-none)))
+        (sym (lent-next _ _ _ _ (omega (arith, sheet-m [] (sizesOf l), header .instances))
+        (lent-next _ _ _ _ (omega (arith, log-most Own)) (lent-next _ _ _ _ (omega (arith, log-most Own)) lent-end))))
 
     log-read : {i s i' s' : List ℕ} {a : Answer} {n : ℕ} {W' : Buffers} → 2048 ≤ length (K .ranks) → length i ≡ 2048 → length s ≡ 2048
         → Reads l Own noBuffers log (i ∷ s ∷ []) a n W' (i' ∷ s' ∷ []) → take n i' ∷ take n s' ∷ [] ≡ listsOf log (reportIn l K)
@@ -124,31 +112,31 @@ module _ (l : Ledger) (whole : complete l ≡ true) (K : Kept) (W : Buffers) (am
   abbrev S : Sheet
   S = sheetOf l K
 
-  settles-fine : (needs lent : List ℕ) → lentAnswer needs lent ≡ accepted → lentAnswer (settleNeeds S ++ needs) (settleLengths K W ++ lent) ≡ accepted
+  settles-fine : (needs lent : List ℕ) → accepted ≡ lentAnswer needs lent → accepted ≡ lentAnswer (settleNeeds S ++ needs) (settleLengths K W ++ lent)
   unfolding settleNeeds
   settles-fine needs lent e =
       let h = header l whole in
       let em = sheet-m (K .sheet) (sizesOf l) in
       let ea = sheet-a (K .sheet) (sizesOf l) in
       let et = sheet-count (K .sheet) (sizesOf l) in
-      lent-more _ _ _ _ (omega (arith, ample .sheet, ea, et, h .accounts, h .transactions))
-      (lent-more _ _ _ _ (omega (arith, ample .ranks, em, h .instances))
-      (lent-more _ _ _ _ (omega (arith, ample .cites, em, h .instances))
-      (lent-more _ _ _ _ (omega (arith, ample .good, em, h .instances))
-      (lent-more _ _ _ _ (omega (arith, ample .counts, et, h .transactions))
-      (lent-more _ _ _ _ (omega (arith, ample .table, et, h .transactions))
-      (lent-more _ _ _ _ (omega (arith, ample .order, em, h .instances)) e))))))
+      lent-next _ _ _ _ (omega (arith, ample .sheet, ea, et, h .accounts, h .transactions))
+      (lent-next _ _ _ _ (omega (arith, ample .ranks, em, h .instances))
+      (lent-next _ _ _ _ (omega (arith, ample .cites, em, h .instances))
+      (lent-next _ _ _ _ (omega (arith, ample .good, em, h .instances))
+      (lent-next _ _ _ _ (omega (arith, ample .counts, et, h .transactions))
+      (lent-next _ _ _ _ (omega (arith, ample .table, et, h .transactions))
+      (lent-next _ _ _ _ (omega (arith, ample .order, em, h .instances)) e))))))
 
   -- once 3 and the working buffers are past
-  fine : (needs lent : List ℕ) → lentAnswer needs lent ≡ accepted → (refuse (not (complete l)) 3 0 then lentAnswer (settleNeeds S ++ needs) (settleLengths K W ++ lent)) ≡ accepted
-  fine needs lent e = then-go _ _ _ (refuse-false _ 3 0 (ap not whole)) (settles-fine needs lent e)
+  fine : (needs lent : List ℕ) → accepted ≡ lentAnswer needs lent → (refuse (not (complete l)) 3 0 then lentAnswer (settleNeeds S ++ needs) (settleLengths K W ++ lent)) ≡ accepted
+  fine needs lent e = then-go _ _ _ (refuse-false _ 3 0 (ap not whole)) (sym (settles-fine needs lent e))
 
   settlements-read : {c c' : List ℕ} {a : Answer} {W' : Buffers} → length c ≡ 1024 → Reads l K W settlements (c ∷ []) a 0 W' (c' ∷ []) → take (l .loading .t) c' ∷ [] ≡ listsOf settlements (reportIn l K)
   unfolding readAnswer workNeeds fillNeeds listsOf filledWith reportIn reportBy
   settlements-read {c} {c'} e R =
       let et = sheet-count (K .sheet) (sizesOf l) in
       let h = header l whole .transactions in
-      let t = told _ _ _ settlements _ (c ∷ []) _ 0 _ (R .tells) (fine _ _ (lent-more _ _ _ _ (omega (arith, et)) lent-none)) in
+      let t = told _ _ _ settlements _ (c ∷ []) _ 0 _ (R .tells) (fine _ _ (lent-next _ _ _ _ (omega (arith, et)) lent-end)) in
       front-one (map codeOf (reportIn l K .settlements)) c c' (l .loading .t) (t .1) (length-map (reportIn l K .settlements) codeOf ∙ length-tabulate (txCount S) _ ∙ et) (omega arith)
 
   accounts-read : {f h f' h' : List ℕ} {a : Answer} {W' : Buffers} → length f ≡ 1024 → length h ≡ 1024 → Reads l K W accounts (f ∷ h ∷ []) a 0 W' (f' ∷ h' ∷ [])
@@ -157,7 +145,7 @@ module _ (l : Ledger) (whole : complete l ≡ true) (K : Kept) (W : Buffers) (am
   accounts-read {f} {h} {f'} {h'} ef eh R =
       let ea = sheet-a (K .sheet) (sizesOf l) in
       let u = header l whole .accounts in
-      let t = told _ _ _ accounts _ (f ∷ h ∷ []) _ 0 _ (R .tells) (fine _ _ (lent-more _ _ _ _ (omega (arith, ea)) (lent-more _ _ _ _ (omega (arith, ea)) lent-none))) in
+      let t = told _ _ _ accounts _ (f ∷ h ∷ []) _ 0 _ (R .tells) (fine _ _ (lent-next _ _ _ _ (omega (arith, ea)) (lent-next _ _ _ _ (omega (arith, ea)) lent-end))) in
       front-two (reportIn l K .free) (reportIn l K .held) f h f' h' (l .loading .a) (t .1) (length-tabulate (S .a) _ ∙ ea) (length-tabulate (S .a) _ ∙ ea) (omega arith) (omega arith)
 
   registers-read : {g g' : List ℕ} {a : Answer} {W' : Buffers} → length g ≡ 64 → Reads l K W registers (g ∷ []) a 0 W' (g' ∷ []) → take (l .loading .g) g' ∷ [] ≡ listsOf registers (reportIn l K)
@@ -165,12 +153,12 @@ module _ (l : Ledger) (whole : complete l ≡ true) (K : Kept) (W : Buffers) (am
   registers-read {g} {g'} e R =
       let eg = sheet-g (K .sheet) (sizesOf l) in
       let h = header l whole .registers in
-      let t = told _ _ _ registers _ (g ∷ []) _ 0 _ (R .tells) (fine _ _ (lent-more _ _ _ _ (omega (arith, eg)) lent-none)) in
+      let t = told _ _ _ registers _ (g ∷ []) _ 0 _ (R .tells) (fine _ _ (lent-next _ _ _ _ (omega (arith, eg)) lent-end)) in
       front-one (reportIn l K .registers) g g' (l .loading .g) (t .1) (registers-count S _ _ ∙ eg) (omega arith)
 
   share-read : {a : Answer} {n : ℕ} {W' : Buffers} → Reads l K W share [] a n W' [] → n ≡ valueOf share (reportIn l K)
   unfolding readAnswer workNeeds fillNeeds
-  share-read R = told _ _ _ share _ [] _ _ _ (R .tells) (fine [] [] lent-none) .0
+  share-read R = told _ _ _ share _ [] _ _ _ (R .tells) (fine [] [] lent-end) .0
 
 -- ---- all five
 
