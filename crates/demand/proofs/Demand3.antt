@@ -1,8 +1,8 @@
 -- Demand 3: the theorem.
 -- Assumes nothing.
-use Prim.Native.Nat.{_+_, _<_, _≤_, ℕ}
-use lib.ListN.{List·getD-eq-default, getD, getD-replicate, length, length-replicate}
-use mathlib.Core.List.{List, [], _∷_, foldl}
+use Prim.Native.Nat.{_+_, _<_, ℕ}
+use lib.ListN.{getD, getD-replicate, length, length-replicate}
+use mathlib.Core.List.{List, foldl}
 use mathlib.Core.Logic.{_≢_}
 use mathlib.Core.Path.{_∙_, _≡_, ap, ap₂, refl, subst, sym}
 use native.Mathlib.Decide.{decLt}
@@ -14,7 +14,7 @@ use Rattle.demand.specs.Claim.{Agree, Demand, Plainly, Read, logsOf, off
 use Rattle.escrow.proofs.Growth.{log-grown, outcome-grown, status-grown}
 use Rattle.escrow.proofs.Outcomes.{ProperLogs, outcome-is, outcome-only}
 use Rattle.escrow.proofs.Totals.{adds-up, covers}
-use Rattle.escrow.specs.Outcome.{Citation, History, InLogs, outcome}
+use Rattle.escrow.specs.Outcome.{Citation, InLogs, outcome}
 use Rattle.escrow.specs.Report.{freeAll, heldAll, logAll, statusAll}
 use Rattle.plain.proofs.Follow.{follows-fresh}
 use Rattle.plain.proofs.Kept.{proper}
@@ -24,22 +24,19 @@ use Rattle.plain.specs.Logs.{Logs, Starts, emptyLogs, historyOf}
 use Rattle.plain.specs.Plain.{ledger, next}
 use Rattle.plain.specs.Report.{Report, reportBy, reportOf}
 use Rattle.readings.specs.Reading.{reportIn}
-use Rattle.settlement.specs.Contracts.{Status, pending}
+use Rattle.settlement.specs.Contracts.{pending}
 use Rattle.sheets.proofs.ProperLaws.{ProperSheet}
-use Rattle.sheets.specs.Sheet.{Sheet, balance, txCount}
+use Rattle.sheets.specs.Sheet.{Sheet, txCount}
 use Rattle.state.proofs.OnCells.{fresh-heights}
-use Rattle.state.specs.Cells.{outcomesIn, pastIn}
+use Rattle.state.specs.Cells.{outcomesIn}
 use Rattle.state.specs.Loading.{LoadsSheet}
-use Rattle.state.specs.State.{Kept, cellsOf, kept, sheetOf}
+use Rattle.state.specs.State.{Kept, cellsOf, kept}
 use Rattle.state.specs.declared.ledger.Ledger.{Ledger}
 use Rattle.state.specs.declared.load.Loaded.{Loaded}
-use Rattle.sums.proofs.SeqLaws.{getD-tabulate, length-tabulate}
+use Rattle.sums.proofs.SeqLaws.{getD-tabulate, tabulate-past}
 use Rattle.sums.proofs.SumLaws.{sum-ext}
 use Rattle.sums.specs.Seq.{Begins, tabulate}
 use Rattle.sums.specs.Sum.{sumTo}
-
-past-end : (n : ℕ) (f : ℕ → Status) (x : ℕ) → (x < n → ⊥) → getD (tabulate n f) x pending ≡ pending
-past-end n f x u = List·getD-eq-default (tabulate n f) pending {n = x} (omega (arith, length-tabulate n f))
 
 -- ---- along the calls
 
@@ -89,13 +86,9 @@ module _ (S : Sheet) (es : List Event) (l : Ledger) (K : Kept) (U : InUse S es l
   recorded : (c : Citation) → InLogs S (historyOf (logsOf S es)) c → outcomesIn (cellsOf l K) c ≡ outcome S (historyOf (logsOf S es)) c
   recorded c w = outcomes-right S Q l K _ (comes .1) c (w .0, omega (arith, w .1, comes .1 .follows .alike .heights (c .instance) (w .0)))
 
-  free-is : (k : ℕ) → k < S .a → getD (reportIn l K .free) k 0 ≡ freeAll S (historyOf (logsOf S es)) k
-  unfolding reportOf reportBy freeAll
-  free-is k u = ap (λ (r : Report). getD (r .free) k 0) right ∙ getD-tabulate (S .a) _ k 0 u
-
-  held-is : (k : ℕ) → k < S .a → getD (reportIn l K .held) k 0 ≡ heldAll S (historyOf (logsOf S es)) k
-  unfolding reportOf reportBy heldAll
-  held-is k u = ap (λ (r : Report). getD (r .held) k 0) right ∙ getD-tabulate (S .a) _ k 0 u
+  -- the sum of a column of the report: the free amounts, or the held
+  column-sum : (column : Report → List ℕ) (f : ℕ → ℕ) → column (reportOf S (logsOf S es)) ≡ tabulate (S .a) f → sumTo (S .a) (λ k. getD (column (reportIn l K)) k 0) ≡ sumTo (S .a) f
+  column-sum column f e = sum-ext (S .a) _ f (λ k u. ap (λ (r : List ℕ). getD r k 0) (ap column right ∙ e) ∙ getD-tabulate (S .a) f k 0 u)
 
   log-is : reportIn l K .log ≡ logAll S (historyOf (logsOf S es))
   unfolding reportOf reportBy logAll
@@ -107,7 +100,7 @@ module _ (S : Sheet) (es : List Event) (l : Ledger) (K : Kept) (U : InUse S es l
 
   settlement-past : (x : ℕ) → (x < txCount S → ⊥) → settlementIn (reportIn l K) x ≡ pending
   unfolding reportOf reportBy
-  settlement-past x u = ap (λ (r : Report). getD (r .settlements) x pending) right ∙ past-end (txCount S) _ x u
+  settlement-past x u = ap (λ (r : Report). getD (r .settlements) x pending) right ∙ tabulate-past (txCount S) _ x pending (omega arith)
 
   pub read-right : Read S es l K (logsOf S es)
   read-right = record {
@@ -116,7 +109,7 @@ module _ (S : Sheet) (es : List Event) (l : Ledger) (K : Kept) (U : InUse S es l
     judged = outcome-is S _ logs-proper (Q .some);
     only = outcome-only S _ logs-proper (Q .some);
     report = right;
-    adds-up = ap₂ _+_ (sum-ext (S .a) _ _ free-is) (sum-ext (S .a) _ _ held-is) ∙ adds-up S Q _ logs-proper;
+    adds-up = ap₂ _+_ (column-sum (λ r. r .free) (freeAll S (historyOf (logsOf S es))) (unfold reportOf reportBy freeAll in refl)) (column-sum (λ r. r .held) (heldAll S (historyOf (logsOf S es))) (unfold reportOf reportBy heldAll in refl)) ∙ adds-up S Q _ logs-proper;
     covered = covers S Q _ logs-proper;
   }
 

@@ -1,12 +1,12 @@
 -- A sheet that was loaded to its end is proper, and no block is there yet.
 -- Assumes nothing.
-use Prim.Native.Nat.{_<_, ℕ}
+use Prim.Native.Nat.{ℕ}
 use borrow.Author.Tests.{eqb-true}
 use lib.Dec.{ltb}
-use lib.ListN.{getD-replicate, length, length-replicate, replicate}
+use lib.ListN.{length, replicate}
 use mathlib.Core.Bool.{Bool, false, true}
 use mathlib.Core.List.{List}
-use mathlib.Core.Path.{_∙_, _≡_, ap, refl, subst, sym}
+use mathlib.Core.Path.{_∙_, _≡_, ap, refl, subst}
 use native.Mathlib.Omega.{arith}
 use Rattle.demand.specs.Chain.{Opening, begin, load}
 use Rattle.frames.proofs.StepLaws.{due-four}
@@ -19,20 +19,20 @@ use Rattle.frames_load.specs.Load.{Loads, loadAnswer, loadCells, loadedCells, r
 use Rattle.frames_load.specs.Proper.{Loaded, fresh, more}
 use Rattle.refusals.specs.declared.Refusal.{Refusal}
 use Rattle.sheets.proofs.ProperLaws.{ProperSheet, proper-sheet}
-use Rattle.sheets.specs.Sheet.{Sheet, sheetFrom, sheetIn}
+use Rattle.sheets.specs.Sheet.{sheetFrom, sheetIn}
 use Rattle.state.specs.Loading.{LoadsSheet, afterStep}
-use Rattle.state.specs.State.{Kept, complete, sheetOf, sizesOf}
+use Rattle.state.specs.State.{Kept, complete, sheetOf}
 use Rattle.state.specs.declared.ledger.Ledger.{Ledger}
 use Rattle.state.specs.declared.load.Loaded as taken
 use Rattle.sums.proofs.TestLaws.{by-pick, pick-false}
 
-abbrev Untaken : Step → Type 0
+abbrev pub Untaken : Step → Type 0
 Untaken t = (n : Loading) (e : ℕ) → t ≡ Step.Took n e → ⊥
 
-refused-untaken : (r : Refusal) → Untaken (Step.Refused r)
+pub refused-untaken : (r : Refusal) → Untaken (Step.Refused r)
 refused-untaken r n e q = let z : _≡_ {A = ℕ} 0 1 = cc in omega arith
 
-end-untaken : Untaken Step.End
+pub end-untaken : Untaken Step.End
 end-untaken n e q = let z : _≡_ {A = ℕ} 0 1 = cc in omega arith
 
 as-they-were : (s : Loading) (b cells : List ℕ) (t : Step) → Untaken t → loadedCells s b cells t ≡ cells
