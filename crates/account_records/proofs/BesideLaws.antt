@@ -11,40 +11,26 @@ use native.Mathlib.Omega.{arith}
 use Rattle.account_records.proofs.OverLaws.{joined-filled}
 use Rattle.account_records.specs.Records.{ReadsBeside, ReadsRecords, joined, over, recordsAnswer, recordsOf}
 use Rattle.account_records.specs.declared.Account.{Account}
-use Rattle.plain.proofs.AnswerLaws.{accepted-of, lent-enough, refuse-false, refuse-pass, refuse-true, then-pass, then-stop}
+use Rattle.plain.proofs.AnswerLaws.{accepted-of, lent-enough, refuse-false, refuse-pass, refuse-true, then-accepted, then-assoc, then-pass, then-stop}
 use Rattle.plain.specs.Answer.{Answer, _then_, accepted, isAccepted, noOffer, refuse, refused}
 use Rattle.plain.specs.Plain.{lentAnswer}
 use Rattle.plain.specs.Report.{accounts, fillNeeds, filledWith, listsOf, readAnswer, reportBy, settleNeeds, valueOf, workNeeds}
+use Rattle.readings.proofs.RoomLaws.{lent-append}
 use Rattle.readings.specs.Reading.{Reads, reportIn, settleLengths}
 use Rattle.settlement.specs.Tables.{Buffers}
 use Rattle.sheets.proofs.SheetCells.{sheet-a}
 use Rattle.state.specs.State.{Kept, complete, sheetOf, sizesOf}
 use Rattle.state.specs.declared.ledger.Ledger.{Ledger}
 use Rattle.sums.proofs.SeqLaws.{length-tabulate}
+use Rattle.sums.proofs.TestLaws.{pick-false}
 use Rattle.sums.specs.Seq.{fill}
 use Rattle.sums.specs.Test.{given, pick}
-
-then-assoc : (a b c : Answer) → ((a then b) then c) ≡ (a then (b then c))
-unfolding _then_
-then-assoc accepted b c = refl
-then-assoc (refused n p) b c = refl
-then-assoc noOffer b c = refl
-
-then-accepted : (a b : Answer) → b ≡ accepted → (a then b) ≡ a
-unfolding _then_
-then-accepted accepted b e = e
-then-accepted (refused n p) b e = refl
-then-accepted noOffer b e = refl
 
 after-refused : (a b : Answer) → isAccepted b ≡ false → isAccepted (a then b) ≡ false
 unfolding _then_
 after-refused accepted b e = e
 after-refused (refused n p) b e = refl
 after-refused noOffer b e = refl
-
-unpicked : {A : Type 0} (x y : A) (t : Bool) → t ≡ false → pick t x y ≡ y
-unfolding pick
-unpicked x y t e = rw e refl
 
 -- ---- the answer where the records are short: the lists need as many places, so what was lent of them does not matter
 
@@ -63,20 +49,14 @@ none-short n room e = then-stop _ _ 16 n (refuse-true _ 16 n (lt-ltb 0 n (omega 
 
 short-lent : (needs lent : List ℕ) (n f h room : ℕ) → length needs ≡ length lent → room < n
     → (lentAnswer (needs ++ (n ∷ n ∷ [])) (lent ++ (f ∷ h ∷ [])) then refuse (ltb room n) 16 n) ≡ lentAnswer (needs ++ (n ∷ n ∷ [])) (lent ++ (0 ∷ 0 ∷ []))
-unfolding lentAnswer
-short-lent [] [] n f h room s e = three-short n f h room e ∙ sym (none-short n room e)
-short-lent [] (k ∷ lent) n f h room s e = absurd (omega arith)
-short-lent (m ∷ needs) [] n f h room s e = absurd (omega arith)
-short-lent (m ∷ needs) (k ∷ lent) n f h room s e =
-    then-assoc (refuse (ltb k m) 16 m) _ _ ∙ ap (λ (a : Answer). refuse (ltb k m) 16 m then a) (short-lent needs lent n f h room (omega arith) e)
+short-lent needs lent n f h room s e =
+    ap (λ (a : Answer). a then refuse (ltb room n) 16 n) (sym (lent-append needs lent (n ∷ n ∷ []) (f ∷ h ∷ []) s)) ∙ then-assoc (lentAnswer needs lent) _ _
+    ∙ ap (λ (a : Answer). lentAnswer needs lent then a) (three-short n f h room e ∙ sym (none-short n room e)) ∙ lent-append needs lent (n ∷ n ∷ []) (0 ∷ 0 ∷ []) s
 
 -- so it is no acceptance
 short-refused : (needs lent : List ℕ) (n room : ℕ) → length needs ≡ length lent → room < n → isAccepted (lentAnswer (needs ++ (n ∷ n ∷ [])) (lent ++ (0 ∷ 0 ∷ []))) ≡ false
-unfolding lentAnswer
-short-refused [] [] n room s e = ap isAccepted (none-short n room e)
-short-refused [] (k ∷ lent) n room s e = absurd (omega arith)
-short-refused (m ∷ needs) [] n room s e = absurd (omega arith)
-short-refused (m ∷ needs) (k ∷ lent) n room s e = after-refused (refuse (ltb k m) 16 m) _ (short-refused needs lent n room (omega arith) e)
+short-refused needs lent n room s e =
+    ap isAccepted (sym (lent-append needs lent (n ∷ n ∷ []) (0 ∷ 0 ∷ []) s)) ∙ after-refused (lentAnswer needs lent) _ (ap isAccepted (none-short n room e))
 
 -- ---- the two ways of the call
 
@@ -90,7 +70,7 @@ module _ (l : Ledger) (K : Kept) (W : Buffers) (room : ℕ) (a : Answer) (W' : B
   unfolding recordsAnswer readAnswer workNeeds settleNeeds fillNeeds pick
   beside-short c e = record {
     answered = c .tells .answered ∙ sym (then-assoc (refuse (not (complete l)) 3 0) _ _ ∙ ap (λ (z : Answer). refuse (not (complete l)) 3 0 then z) (short-lent (settleNeeds (sheetOf l K)) (settleLengths K W) (sheetOf l K .a) (length f) (length h) room refl short));
-    lists = sym (unpicked _ _ _ no);
+    lists = sym (pick-false _ _ _ no);
     quiet = c .quiet;
     beyond = c .beyond;
   }
@@ -105,7 +85,7 @@ module _ (l : Ledger) (K : Kept) (W : Buffers) (room : ℕ) (a : Answer) (W' : B
   pub beside-full : Reads l K W accounts (f ∷ h ∷ []) a 0 W' (f' ∷ h' ∷ []) → l .loading .a ≤ room → ReadsBeside l K W (f ∷ h ∷ []) room a W' (f' ∷ h' ∷ [])
   unfolding recordsAnswer
   beside-full c e = record {
-    answered = c .tells .answered ∙ sym (then-accepted _ _ (refuse-false _ 16 _ (le-ltb room (sheetOf l K .a) enough)));
+    answered = c .tells .answered ∙ sym (rw (refuse-false (ltb room (sheetOf l K .a)) 16 (sheetOf l K .a) (le-ltb room (sheetOf l K .a) enough)) (then-accepted _));
     lists = c .tells .lists;
     quiet = c .quiet;
     beyond = c .beyond;
@@ -117,10 +97,9 @@ module _ (l : Ledger) (K : Kept) (W : Buffers) (room : ℕ) (a : Answer) (W' : B
 -- ---- what the records need, and what becomes of them
 
 lent-last : (needs lent : List ℕ) (n f h : ℕ) → length needs ≡ length lent → lentAnswer (needs ++ (n ∷ n ∷ [])) (lent ++ (f ∷ h ∷ [])) ≡ accepted → (n ≤ f) × (n ≤ h)
-lent-last [] [] n f h s e = let p = lent-enough n f (n ∷ []) (h ∷ []) e in (p .0, lent-enough n h [] [] (p .1) .0)
-lent-last [] (k ∷ lent) n f h s e = absurd (omega arith)
-lent-last (m ∷ needs) [] n f h s e = absurd (omega arith)
-lent-last (m ∷ needs) (k ∷ lent) n f h s e = lent-last needs lent n f h (omega arith) (lent-enough m k _ _ e .1)
+lent-last needs lent n f h s e =
+    let p = lent-enough n f (n ∷ []) (h ∷ []) (then-pass (lentAnswer needs lent) _ (lent-append needs lent (n ∷ n ∷ []) (f ∷ h ∷ []) s ∙ e) .1) in
+    (p .0, lent-enough n h [] [] (p .1) .0)
 
 module _ (l : Ledger) (K : Kept) (W : Buffers) (f h : List ℕ) (room : ℕ) (a : Answer) (W' : Buffers) (f' h' : List ℕ) (c : ReadsBeside l K W (f ∷ h ∷ []) room a W' (f' ∷ h' ∷ [])) where
   -- an acceptance says that there are as many places as accounts

@@ -6,7 +6,7 @@ use mathlib.Core.Bool.{Bool, false, not, true}
 use mathlib.Core.Path.{_∙_, _≡_, ap, refl, sym}
 use native.Mathlib.Decide.{decLt}
 use native.Mathlib.Omega.{arith}
-use Rattle.plain.proofs.AnswerLaws.{accepted-of, firstTo-next, firstTo-stop, refuse-false, refuse-true, then-go}
+use Rattle.plain.proofs.AnswerLaws.{accepted-of, firstTo-next, firstTo-stop, refuse-false, refuse-true, then-go, then-keep}
 use Rattle.plain.specs.Answer.{Answer, _then_, accepted, firstTo, isAccepted, noOffer, refuse, refused}
 use Rattle.sums.proofs.LoopLaws.{anyTo-hit, anyTo-more}
 use Rattle.sums.proofs.TestLaws.{pick-false}
@@ -47,12 +47,6 @@ module _ (t : ℕ → Bool) (number : ℕ) where
 
 passes : (r : Answer) {u : Bool} → u ≡ isAccepted r → not u ≡ false → r ≡ accepted
 passes r {u} q e = accepted-of r (sym q ∙ not-false u e)
-
-then-keep : (a b : Answer) → isAccepted a ≡ false → (a then b) ≡ a
-unfolding _then_
-then-keep accepted b e = cc
-then-keep (refused n p) b e = refl
-then-keep noOffer b e = refl
 
 pub chain-stop : {a r : Answer} (b : Answer) {u : Bool} → r ≡ a → u ≡ isAccepted r → not u ≡ true → r ≡ (a then b)
 chain-stop {a} b {u} p q e = p ∙ sym (then-keep a b (ap isAccepted (sym p) ∙ sym q ∙ not-true u e))

@@ -7,9 +7,9 @@ use mathlib.Core.Logic.{_≢_}
 use mathlib.Core.Path.{_∙_, _≡_, ap, ap₂, refl, subst, sym}
 use native.Mathlib.Decide.{decLt}
 use native.Mathlib.Omega.{arith}
-use Rattle.demand.proofs.Opened.{opened, sheet-proper}
-use Rattle.demand.proofs.Steps.{Beside, offer-answer, offer-beside, outcomes-right, read-told, report-right}
-use Rattle.demand.specs.Chain.{Calls, Event, InUse, block, load, read, slip, stop}
+use Rattle.demand.proofs.Opened.{opened, sheet-proper, sheet-said}
+use Rattle.demand.proofs.Steps.{Beside, offer-answer, offer-beside, outcomes-right, read-told, report-right, short-beside, short-told}
+use Rattle.demand.specs.Chain.{Calls, Event, InUse, loading, offer, reading, short, stop}
 use Rattle.demand.specs.Claim.{Agree, Demand, Plainly, Read, logsOf, offersIn, settlementIn}
 use Rattle.escrow.proofs.Growth.{log-grown, outcome-grown, status-grown}
 use Rattle.escrow.proofs.Outcomes.{ProperLogs, outcome-is, outcome-only}
@@ -30,7 +30,7 @@ use Rattle.sheets.specs.Sheet.{Sheet, txCount}
 use Rattle.state.proofs.OnCells.{fresh-heights}
 use Rattle.state.specs.Cells.{outcomesIn}
 use Rattle.state.specs.Loading.{LoadsSheet}
-use Rattle.state.specs.State.{Kept, cellsOf, kept}
+use Rattle.state.specs.State.{Kept, cellsOf, kept, sheetOf}
 use Rattle.state.specs.declared.ledger.Ledger.{Ledger}
 use Rattle.state.specs.declared.load.Loaded.{Loaded}
 use Rattle.sums.proofs.SeqLaws.{getD-tabulate, tabulate-past}
@@ -48,27 +48,30 @@ along : (S : Sheet) → ProperSheet S → (l : Ledger) (K : Kept) (es : List Eve
     → Plainly S L es × Beside S l' K' (foldl (next S) L (offersIn es))
 unfolding Plainly offersIn
 along S Q l K es l' K' L stop I = (tt, I)
-along S Q l K es l' K' L (block {K' = K1} {es = rest} {r = r} b cites p q) I =
-    let (t, J) = along S Q (r .ledger) K1 rest l' K' _ q (offer-beside S Q l K _ _ r K1 _ L p refl I) in
-    ((offer-answer S Q l K _ _ r K1 _ L p refl I, t), J)
-along S Q l K es l' K' L (slip {K' = K1} {es = rest} {r = r} p q) I =
-    let (t, J) = along S Q (r .ledger) K1 rest l' K' _ q (offer-beside S Q l K _ _ r K1 _ L p refl I) in
-    ((offer-answer S Q l K _ _ r K1 _ L p refl I, t), J)
-along S Q l K es l' K' L (read {es = rest} {q = q} R c) I =
+along S Q l K es l' K' L (offer {K' = K1} {es = rest} {r = r} o lent p q) I =
+    let (t, J) = along S Q (r .ledger) K1 rest l' K' _ q (offer-beside S Q l K _ o r K1 _ L p lent I) in
+    ((offer-answer S Q l K _ o r K1 _ L p lent I, t), J)
+along S Q l K es l' K' L (short {es = rest} {r = r} o lent few p q) I =
+    let (t, J) = along S Q (r .ledger) K rest l' K' _ q (short-beside S l K _ _ o r _ _ L few p I) in
+    ((short-told S l K _ _ o r _ _ L few p I, t), J)
+along S Q l K es l' K' L (reading {es = rest} {q = q} R c) I =
     let (t, J) = along S Q l K rest l' K' L c I in
     ((read-told S Q l K _ _ _ _ _ _ L I q R, t), J)
-along S Q l K es l' K' L (load {cells = cells} {run = run} {at = at} {r = r} s c) I = along S Q (r .ledger) _ es l' K' L c (loaded-beside S l K L run at cells r s I)
+along S Q l K es l' K' L (loading {cells = cells} {run = run} {at = at} {r = r} s c) I = along S Q (r .ledger) _ es l' K' L c (loaded-beside S l K L run at cells r s I)
 
 module _ (S : Sheet) (es : List Event) (l : Ledger) (K : Kept) (U : InUse S es l K) where
+  first-sheet : S ≡ sheetOf (U .first) (U .lent)
+  first-sheet = sheet-said S (U .first) (U .lent) (U .opened) (U .whole)
+
   pub Q : ProperSheet S
-  Q = subst ProperSheet (sym (U .sheet)) (sheet-proper (U .first) (U .lent) (U .opened) (U .whole))
+  Q = subst ProperSheet (sym first-sheet) (sheet-proper S (U .first) (U .lent) (U .opened) (U .whole))
 
   begins : Beside S (U .first) (U .lent) (emptyLogs S)
   begins =
       let e = opened (U .opened) .empty in
       record {
         whole = U .whole;
-        sheet = U .sheet;
+        sheet = first-sheet;
         sixteen = ap length e ∙ length-replicate {A = ℕ} 16 0;
         follows = follows-fresh S _ (λ j k. fresh-heights (cellsOf (U .first) (U .lent)) j (ap (λ (h : List ℕ). getD h j 0) e ∙ getD-replicate 16 j 0 0 (omega (arith, Q .small))));
       }
@@ -104,12 +107,15 @@ module _ (S : Sheet) (es : List Event) (l : Ledger) (K : Kept) (U : InUse S es l
 
   pub read-right : Read S es l K (logsOf S es)
   read-right = record {
+    sheet = sym (comes .1 .sheet);
     plainly = comes .0;
     outcomes = recorded;
     judged = outcome-is S _ logs-proper (Q .some);
     only = outcome-only S _ logs-proper (Q .some);
     report = right;
-    adds-up = ap₂ _+_ (column-sum (λ r. r .free) (freeAll S (historyOf (logsOf S es))) (unfold reportOf reportBy freeAll in refl)) (column-sum (λ r. r .held) (heldAll S (historyOf (logsOf S es))) (unfold reportOf reportBy heldAll in refl)) ∙ adds-up S Q _ logs-proper;
+    adds-up =
+        ap₂ _+_ (column-sum (λ r. r .free) (freeAll S (historyOf (logsOf S es))) (unfold reportOf reportBy freeAll in refl)) (column-sum (λ r. r .held) (heldAll S (historyOf (logsOf S es))) (unfold reportOf reportBy heldAll in refl))
+        ∙ adds-up S Q _ logs-proper;
     covered = covers S Q _ logs-proper;
   }
 
@@ -144,4 +150,4 @@ module _ (S : Sheet) (es es' : List Event) (l l' : Ledger) (K K' : Kept) (U : In
   }
 
 pub demand-3 : Demand
-demand-3 = record { one = read-right; two = agree; slip = λ S L lent bytes at b l p. one-offer S bytes at b p L lent l }
+demand-3 = record { one = read-right; two = agree; as-values = λ S L lent bytes at b l p. one-offer S bytes at b p L lent l }

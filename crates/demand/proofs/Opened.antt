@@ -1,30 +1,32 @@
--- A sheet that was loaded to its end is proper, and no block is there yet.
+-- A sheet that was loaded to its end is what the frames said and is proper, and no block is there yet.
 -- Assumes nothing.
-use Prim.Native.Nat.{ℕ}
-use borrow.Author.Tests.{eqb-true}
-use lib.Dec.{ltb}
+use Prim.Native.Nat.{_≤_, ℕ}
+use borrow.Author.Tests.{eq-eqb, eqb-true, ne-eqb}
+use lib.Dec.{eqb, ltb}
 use lib.ListN.{length, replicate}
 use mathlib.Core.Bool.{Bool, false, true}
 use mathlib.Core.List.{List}
-use mathlib.Core.Path.{_∙_, _≡_, ap, refl, subst}
+use mathlib.Core.Logic.{_⊎_, inl, inr}
+use mathlib.Core.Path.{_∙_, _≡_, ap, refl, subst, sym}
 use native.Mathlib.Omega.{arith}
-use Rattle.demand.specs.Chain.{Opening, begin, load}
-use Rattle.frames.proofs.StepLaws.{due-four}
-use Rattle.frames.specs.Frame.{bodyOf, frameAt}
-use Rattle.frames.specs.Step.{kindDue, stepAt}
+use Rattle.demand.specs.Chain.{Opening, begin, load, sheetAfter, sheetWith}
+use Rattle.frames.proofs.StepLaws.{due-four, due-late, judged-kind, took-judged}
+use Rattle.frames.specs.Frame.{bodyAt, bodyOf, frameAt}
+use Rattle.frames.specs.Step.{headerLoaded, kindDue, stepAt}
 use Rattle.frames.specs.declared.step.Loading.{Loading}
 use Rattle.frames.specs.declared.step.Step.{Step}
 use Rattle.frames_load.proofs.ProperLaws.{loaded-complete}
-use Rattle.frames_load.specs.Load.{Loads, loadAnswer, loadCells, loadedCells, room, sheetSoFar}
+use Rattle.frames_load.specs.Load.{Adds, LoadStep, Loads, loadAnswer, loadCells, loadedCells, room, sheetSoFar, withBalances, withTransaction}
 use Rattle.frames_load.specs.Proper.{Loaded, fresh, more}
 use Rattle.refusals.specs.declared.Refusal.{Refusal}
 use Rattle.sheets.proofs.ProperLaws.{ProperSheet, proper-sheet}
-use Rattle.sheets.specs.Sheet.{sheetFrom, sheetIn}
+use Rattle.sheets.specs.Sheet.{Sheet, sheetFrom, sheetIn}
 use Rattle.state.specs.Loading.{LoadsSheet, afterStep}
 use Rattle.state.specs.State.{Kept, complete, sheetOf}
 use Rattle.state.specs.declared.ledger.Ledger.{Ledger}
 use Rattle.state.specs.declared.load.Loaded as taken
-use Rattle.sums.proofs.TestLaws.{by-pick, pick-false}
+use Rattle.sums.proofs.TestLaws.{by-pick, passed, peel, pick-false, took}
+use Rattle.sums.specs.Test.{pick}
 
 abbrev pub Untaken : Step → Type 0
 Untaken t = (n : Loading) (e : ℕ) → t ≡ Step.Took n e → ⊥
@@ -48,34 +50,68 @@ untaken-cells run at s before after t L h =
     ∙ by-pick (λ (c : List ℕ). c ≡ before) (ltb (length before) (room s)) (λ e. refl)
     (λ e. as-they-were s (bodyOf (frameAt run at) run) before (stepAt run at s) (subst Untaken (L .answers ∙ pick-false _ _ _ e) h))
 
-pub record Opened (l : Ledger) (cells : List ℕ) : Type 0 where
+-- where a frame was taken the step is the frame's own
+own-step : (run : List ℕ) (at : ℕ) (s next : Loading) (end n : ℕ) → loadAnswer run at s n ≡ Step.Took next end → stepAt run at s ≡ Step.Took next end
+unfolding loadAnswer
+own-step run at s next end n q = peel (ltb n (room s)) (refused-untaken _ next end) q .1
+
+pub record Opened (l : Ledger) (cells : List ℕ) (S : Sheet) : Type 0 where
   pub loaded : Loaded (l .loading) cells
   pub empty : l .heights ≡ replicate 16 0
+  -- once the balances are there
+  pub said : 2 ≤ l .loading .stage → S ≡ sheetSoFar (l .loading) cells
 
-module _ (l : Ledger) (cells cells' run : List ℕ) (at : ℕ) (r : taken.Loaded) (p : Opened l cells) (s : LoadsSheet l run at cells cells' r) where
-  same : r .ledger ≡ l → cells' ≡ cells → Opened (r .ledger) cells'
-  same e q = rw (e, q) p
+module _ (l : Ledger) (cells cells' run : List ℕ) (at : ℕ) (S : Sheet) (r : taken.Loaded) (p : Opened l cells S) (s : LoadsSheet l run at cells cells' r) where
+  After : Type 0
+  After = Opened (r .ledger) cells' (sheetAfter (l .loading) (bodyAt run at) S (r .answer))
 
-  by-step : (t : Step) → Loads run at (l .loading) cells cells' t → r ≡ afterStep l t → Opened (r .ledger) cells'
-  by-step (Step.Took n e) L q = rw q (record { loaded = more run at e (p .loaded) L; empty = p .empty })
-  by-step (Step.Refused x) L q = same (ap (λ (z : taken.Loaded). z .ledger) q) (untaken-cells run at (l .loading) cells cells' (Step.Refused x) L (refused-untaken x))
-  by-step Step.End L q = same (ap (λ (z : taken.Loaded). z .ledger) q) (untaken-cells run at (l .loading) cells cells' Step.End L end-untaken)
+  module _ (more : complete l ≡ false) (t : Step) (L : LoadStep run at (l .loading) cells cells' t) where
+    -- the sheet so far, with what the frame added
+    added : (next : Loading) (end : ℕ) → t ≡ Step.Took next end → 2 ≤ next .stage → sheetWith (l .loading) (bodyAt run at) S ≡ sheetSoFar next cells'
+    unfolding sheetWith complete headerLoaded
+    added next end q late =
+        by-kind (judged-kind (l .loading) (kindDue (l .loading)) (bodyAt run at) at
+        (took-judged (l .loading) run at next end (own-step run at (l .loading) next end (length cells) (sym (L .bytes .answers) ∙ q)) .0))
+      where
+        A : Adds (l .loading) next (bodyAt run at) cells cells'
+        A = L .adds next end q
 
-  by-complete : (b : Bool) → complete l ≡ b → Opened (r .ledger) cells'
-  by-complete true e = same (ap (λ (z : taken.Loaded). z .ledger) (s .whole e .0)) (s .whole e .1)
-  by-complete false e = let (t, L, q) = s .loads e in by-step t (L .bytes) q
+        by-kind : (kindDue (l .loading) ≡ 1) ⊎ ((kindDue (l .loading) ≡ 2) ⊎ ((kindDue (l .loading) ≡ 3) ⊎ (kindDue (l .loading) ≡ 4)))
+            → pick (eqb (kindDue (l .loading)) 2) (withBalances (l .loading) (bodyAt run at)) (pick (eqb (kindDue (l .loading)) 3) (withTransaction S (bodyAt run at)) S) ≡ sheetSoFar next cells'
+        by-kind (inl e) = absurd (omega (arith, ap (λ (n : Loading). n .stage) (A .header e .0)))
+        by-kind (inr (inl e)) = took _ (eq-eqb _ _ e) (sym (A .balances e))
+        by-kind (inr (inr (inl e))) =
+            passed _ (ne-eqb (kindDue (l .loading)) 2 (λ z. omega arith))
+            (took _ (eq-eqb _ _ e) (ap (λ (T : Sheet). withTransaction T (bodyAt run at)) (p .said (due-late (l .loading) 3 (omega arith) e)) ∙ sym (A .transaction e)))
+        by-kind (inr (inr (inr e))) = absurd (let z : _≡_ {A = Bool} true false = sym (eq-eqb _ _ e) ∙ more in let w : _≡_ {A = ℕ} 0 1 = cc in omega arith)
 
-pub opened : {l : Ledger} {cells : List ℕ} → Opening l cells → Opened l cells
-opened begin = record { loaded = fresh refl; empty = refl }
-opened (load {l} {cells} {cells'} {run} {at} {r} o s) = by-complete l cells cells' run at r (opened o) s (complete l) refl
+  by-step : complete l ≡ false → (t : Step) → LoadStep run at (l .loading) cells cells' t → r ≡ afterStep l t → After
+  unfolding After
+  by-step c (Step.Took n e) L q = rw q (record { loaded = more run at e (p .loaded) (L .bytes); empty = p .empty; said = added c (Step.Took n e) L n e refl })
+  by-step c (Step.Refused x) L q = rw (q, untaken-cells run at (l .loading) cells cells' (Step.Refused x) (L .bytes) (refused-untaken x)) p
+  by-step c Step.End L q = rw (q, untaken-cells run at (l .loading) cells cells' Step.End (L .bytes) end-untaken) p
+
+  by-complete : (b : Bool) → complete l ≡ b → After
+  unfolding After
+  by-complete true e = rw (s .whole e .0, s .whole e .1) p
+  by-complete false e = let (t, L, q) = s .loads e in by-step e t L q
+
+pub opened : {l : Ledger} {cells : List ℕ} {S : Sheet} → Opening l cells S → Opened l cells S
+unfolding After
+opened begin = record { loaded = fresh refl; empty = refl; said = λ u. absurd (omega arith) }
+opened (load {l} {cells} {cells'} {run} {at} {S} {r} o s) = by-complete l cells cells' run at S r (opened o) s (complete l) refl
 
 -- the loaded sheet is the one that the ledger's numbers read from the cells
 pub whole-sheet : (l : Ledger) (K : Kept) → complete l ≡ true → sheetSoFar (l .loading) (K .sheet) ≡ sheetOf l K
 unfolding complete sheetSoFar sheetIn
 whole-sheet l K e = ap (λ (t : ℕ). sheetFrom (l .loading .m) (l .loading .a) (l .loading .g) t (K .sheet)) (due-four (l .loading) (eqb-true (kindDue (l .loading)) 4 e))
 
-pub sheet-proper : (l : Ledger) (K : Kept) → Opening l (K .sheet) → complete l ≡ true → ProperSheet (sheetOf l K)
+pub sheet-said : (S : Sheet) (l : Ledger) (K : Kept) → Opening l (K .sheet) S → complete l ≡ true → S ≡ sheetOf l K
 unfolding complete
-sheet-proper l K o e =
+sheet-said S l K o e = opened o .said (due-late (l .loading) 4 (omega arith) (eqb-true (kindDue (l .loading)) 4 e)) ∙ whole-sheet l K e
+
+pub sheet-proper : (S : Sheet) (l : Ledger) (K : Kept) → Opening l (K .sheet) S → complete l ≡ true → ProperSheet (sheetOf l K)
+unfolding complete
+sheet-proper S l K o e =
     let c = loaded-complete (l .loading) (K .sheet) (opened o .loaded) (eqb-true (kindDue (l .loading)) 4 e) in
     subst ProperSheet (whole-sheet l K e) (proper-sheet (sheetSoFar (l .loading) (K .sheet)) (c .proper))

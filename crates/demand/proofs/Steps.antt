@@ -3,33 +3,33 @@
 use Prim.Native.Nat.{_*_, _≤_, suc, zero, ℕ}
 use lib.Dec.{eqb}
 use lib.ListN.{length, length-set}
-use mathlib.Core.Bool.{Bool, true}
+use mathlib.Core.Bool.{Bool, false, true}
 use mathlib.Core.List.{List, [], _++_, _∷_, map}
 use mathlib.Core.Path.{_∙_, _≡_, ap, ap₂, refl, subst, sym}
 use native.Mathlib.Omega.{arith}
 use Rattle.escrow.proofs.Growth.{outcome-grown}
 use Rattle.escrow.specs.Cells.{historyIn}
-use Rattle.escrow.specs.Outcome.{Citation, InLogs, fullView, outcome}
+use Rattle.escrow.specs.Outcome.{Citation, History, InLogs, fullView, outcome}
 use Rattle.offers.specs.Offering.{Offers, answerFrom, replyOf}
 use Rattle.offers.specs.declared.answer.Offered.{Offered}
 use Rattle.ordering.specs.Order.{Ref}
 use Rattle.plain.proofs.Alike.{alike-extends}
-use Rattle.plain.proofs.AnswerLaws.{lent-enough, offer-lent}
+use Rattle.plain.proofs.AnswerLaws.{lent-enough, offer-lent, then-keep, then-not}
 use Rattle.plain.proofs.Engine.{Answered, Engine, reportFrom, wholeView}
 use Rattle.plain.proofs.Follow.{Follows, follows-next, same-answer}
 use Rattle.plain.proofs.Kept.{proper}
 use Rattle.plain.proofs.Reading.{reads-right}
-use Rattle.plain.specs.Answer.{Answer, accepted, isAccepted}
+use Rattle.plain.specs.Answer.{Answer, _then_, accepted, isAccepted}
 use Rattle.plain.specs.Logs.{Logs, Values, historyOf}
 use Rattle.plain.specs.Offers.{Offer, lentOf, offerNeeds, offered}
-use Rattle.plain.specs.Plain.{answer, lentAnswer, next}
+use Rattle.plain.specs.Plain.{answer, idleAnswer, lentAnswer, next}
 use Rattle.plain.specs.Report.{Query, Report, Tells, accounts, fillNeeds, listsOf, log, readAnswer, registers, reportBy, reportOf, settlements, share, valueOf, workNeeds}
 use Rattle.readings.specs.Reading.{Reads, lentTo, reportIn, workLengths}
 use Rattle.settlement.specs.Cells.{rowsIn}
 use Rattle.settlement.specs.Tables.{Buffers}
 use Rattle.settlement.specs.View.{viewLog}
 use Rattle.sheets.proofs.ProperLaws.{ProperSheet}
-use Rattle.sheets.proofs.SheetCells.{sheet-m}
+use Rattle.sheets.proofs.SheetCells.{sheet-a, sheet-count, sheet-m}
 use Rattle.sheets.specs.Sheet.{Sheet}
 use Rattle.state.proofs.Engine.{Roomy, engineIn}
 use Rattle.state.proofs.Grows.{rows-in}
@@ -37,7 +37,7 @@ use Rattle.state.proofs.OnCells.{cells-answered}
 use Rattle.state.specs.Cells.{Cells, cellsOffered, judgedIn, pastIn, storedIn, takenIn}
 use Rattle.state.specs.State.{Kept, cellsOf, complete, kept, lengthsOf, sheetOf, sizesOf}
 use Rattle.state.specs.declared.ledger.Ledger.{Ledger}
-use Rattle.sums.proofs.TestLaws.{by-pick, pick-true}
+use Rattle.sums.proofs.TestLaws.{by-pick, pick-false, pick-true}
 use Rattle.sums.specs.Fold.{foldTo}
 
 -- the ledger l with its buffers K, and the plain ledger's logs L
@@ -94,6 +94,54 @@ module _ (S : Sheet) (Q : ProperSheet S) (l : Ledger) (K : Kept) (W : Buffers) (
     sheet = I .sheet ∙ rw (p .loading, p .sheet) refl;
     sixteen = ap (λ (D : Cells). length (D .heights)) cells-are ∙ heights-offered S _ (offered S o) (cellsOf l K) ∙ I .sixteen;
     follows = follows-next S Q _ _ L o _ step (I .follows);
+  }
+
+-- ---- an offer that lends too little: 16, whatever the buffers hold
+
+short-answer : (S : Sheet) (H : History) (o : Offer) → isAccepted (lentAnswer (offerNeeds S) (lentOf o)) ≡ false
+    → answer S H o ≡ (idleAnswer o then lentAnswer (offerNeeds S) (lentOf o))
+unfolding answer
+short-answer S H o e = ap (_then_ (idleAnswer o)) (then-keep (lentAnswer (offerNeeds S) (lentOf o)) _ e)
+
+needs-same : (l : Ledger) (J K : Kept) → offerNeeds (sheetOf l J) ≡ offerNeeds (sheetOf l K)
+unfolding offerNeeds
+needs-same l J K =
+    rw (sheet-m (J .sheet) (sizesOf l), sheet-a (J .sheet) (sizesOf l), sheet-count (J .sheet) (sizesOf l))
+    (rw (sheet-m (K .sheet) (sizesOf l), sheet-a (K .sheet) (sizesOf l), sheet-count (K .sheet) (sizesOf l)) refl)
+
+module _ (S : Sheet) (l : Ledger) (K J : Kept) (W : Buffers) (o : Offer) (r : Offered) (J' : Kept) (W' : Buffers) (L : Logs)
+    (few : isAccepted (lentAnswer (offerNeeds (sheetOf l K)) (lentOf o)) ≡ false) (p : Offers l J W o r J' W') (I : Beside S l K L) where
+  few-there : isAccepted (lentAnswer (offerNeeds (sheetOf l J)) (lentOf o)) ≡ false
+  few-there = rw (needs-same l J K) few
+
+  few-here : isAccepted (lentAnswer (offerNeeds S) (lentOf o)) ≡ false
+  few-here = rw (I .sheet) few
+
+  found : answerFrom l J o ≡ (idleAnswer o then lentAnswer (offerNeeds (sheetOf l J)) (lentOf o))
+  unfolding answerFrom
+  found = pick-true _ _ _ (I .whole) ∙ short-answer (sheetOf l J) (pastIn (cellsOf l J)) o few-there
+
+  pub short-told : replyOf (r .answer) ≡ answer S (historyOf L) o
+  short-told =
+      p .answered ∙ found
+      ∙ ap (λ (n : List ℕ). idleAnswer o then lentAnswer n (lentOf o)) (needs-same l J K ∙ ap offerNeeds (sym (I .sheet)))
+      ∙ sym (short-answer S (historyOf L) o few-here)
+
+  heights-same : r .ledger .heights ≡ l .heights
+  unfolding cellsOffered
+  heights-same =
+      ap (λ (C : Cells). C .heights) (p .cells ∙ pick-false _ _ _ (ap isAccepted found ∙ then-not (idleAnswer o) _ few-there))
+
+  next-same : next S L o ≡ L
+  unfolding next
+  next-same = pick-false _ _ _ (ap isAccepted (short-answer S (historyOf L) o few-here) ∙ then-not (idleAnswer o) _ few-here)
+
+  pub short-beside : Beside S (r .ledger) K (next S L o)
+  short-beside = record {
+    whole = unfold complete in rw (p .loading) (I .whole);
+    sheet = I .sheet ∙ rw (p .loading) refl;
+    sixteen = ap length heights-same ∙ I .sixteen;
+    follows = rw (heights-same, next-same) (I .follows);
   }
 
 -- ---- a reading

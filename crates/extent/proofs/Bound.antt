@@ -9,6 +9,7 @@ use mathlib.Core.Bool.{Bool, false, true}
 use mathlib.Core.List.{List, [], _++_}
 use mathlib.Core.Path.{_∙_, _≡_, refl, subst, sym}
 use native.Mathlib.Omega.{arith}
+use Rattle.demand.specs.Chain.{noSheet}
 use Rattle.extent.proofs.FrameLaws.{ParsedOf, ValuesFit, parse-of, values-fit}
 use Rattle.extent.proofs.LogLaws.{LogsFit, SheetFits, empty-fit, next-fit, report-fits}
 use Rattle.extent.proofs.OpeningLaws.{OpenedFits, opening-fits}
@@ -29,7 +30,7 @@ use Rattle.plain.specs.Report.{reportOf}
 use Rattle.refusals.specs.Refusals.{refusalNumber, refusalPlace}
 use Rattle.refusals.specs.declared.Refusal.{Refusal}
 use Rattle.replay.proofs.ChainLaws.{least-lent}
-use Rattle.replay.specs.Opening.{Opened, ended, noLoading, noSheet, openFrom, sheet}
+use Rattle.replay.specs.Opening.{Opened, ended, noLoading, openFrom, sheet}
 use Rattle.replay.specs.Reading.{answerLine, blocksText, endOf, endsOutput, frameOffer, openedText, readingText}
 use Rattle.sheets.specs.Sheet.{Sheet, txCount}
 use Rattle.sums.proofs.TestLaws.{by-pick, pick-false}

@@ -9,9 +9,9 @@ use mathlib.Core.Bool.{Bool, false, true}
 use mathlib.Core.List.{List, [], _∷_, map}
 use mathlib.Core.Path.{_∙_, _≡_, ap}
 use native.Mathlib.Decide.{decLt, ℕ-discrete}
-use native.Mathlib.Nat.{div-le-self, mul-suc}
+use native.Mathlib.Nat.{div-le-self}
 use native.Mathlib.Omega.{arith}
-use Rattle.closing.proofs.RegisterLaws.{registers-count}
+use Rattle.closing.proofs.RegisterLaws.{registers-count, registers-keep}
 use Rattle.escrow.proofs.Totals.{adds-up}
 use Rattle.escrow.specs.Amounts.{isPending}
 use Rattle.escrow.specs.Outcome.{History, fullView}
@@ -30,20 +30,22 @@ use Rattle.plain.specs.Logs.{Logs, appended, blockFrom, emptyLogs, historyOf}
 use Rattle.plain.specs.Offers.{Offer, offered}
 use Rattle.plain.specs.Plain.{answer, next}
 use Rattle.plain.specs.Report.{reportBy, reportOf}
-use Rattle.settlement.specs.Contracts.{Book, Status, booked, counted, emptyBook, runAll, settled, step}
+use Rattle.settlement.specs.Contracts.{Status}
 use Rattle.settlement.specs.Settlement.{contracts, status}
-use Rattle.settlement.specs.View.{Event, Rows, View, logEvents, viewLog}
+use Rattle.settlement.specs.View.{Rows, View, viewLog}
 use Rattle.sheets.proofs.ProperLaws.{ProperSheet}
-use Rattle.sheets.specs.Operations.{Done, operate, operateTo, operated}
+use Rattle.sheets.specs.Operations.{Done, operate}
 use Rattle.sheets.specs.Sheet.{Sheet, balance, txAt, txCount}
-use Rattle.sums.proofs.SeqLaws.{getD-tabulate, length-tabulate, tabulate-past}
+use Rattle.sums.proofs.FillLaws.{tabulate-each}
+use Rattle.sums.proofs.LoopLaws.{sum-most}
+use Rattle.sums.proofs.SeqLaws.{length-tabulate}
 use Rattle.sums.proofs.SumLaws.{sum-term}
 use Rattle.sums.proofs.TestLaws.{by-pick}
 use Rattle.sums.specs.Seq.{All, tabulate}
 use Rattle.sums.specs.Sum.{sumTo}
 use Rattle.sums.specs.Test.{flip}
 use Rattle.text.proofs.Bounds.{Below, TailFits}
-use Rattle.transactions.specs.Content.{Operation, noOperation, operationOf}
+use Rattle.transactions.specs.Content.{Operation, operationOf}
 
 -- a sheet whose numbers are as wide as a run's bytes have them
 pub record SheetFits (S : Sheet) : Type 0 where
@@ -106,6 +108,12 @@ low-set b l i v h u k = elim (ℕ-discrete k i) [
     own (yes w) = rw (getD-set-same l i v 0 w) u
     own (no w) = rw (set-out l i v (omega arith)) (h i)
 
+pub zeros-low : (b n : ℕ) → 0 < b → Below b (replicate n 0)
+zeros-low b n z k = elim (decLt k n) [
+  | yes u ↦ rw (getD-replicate {A = ℕ} n k 0 0 u) z
+  | no u ↦ rw (List·getD-eq-default (replicate {A = ℕ} n 0) 0 {n = k} (omega (arith, length-replicate {A = ℕ} n 0))) z
+]
+
 abbrev Low : Done → Type 0
 Low d = Below 4294967296 (d .registers)
 
@@ -118,44 +126,11 @@ operate-low op r v h =
     (λ e. by-pick Low _ (λ e. by-pick Low _ (λ t. low-set _ r _ _ h (omega (arith, leb-true (getD r (op .register) 0 + op .value) 4294967295 t))) (λ t. h))
     (λ e. by-pick Low _ (λ t. low-set _ r _ _ h (omega (arith, h (op .register)))) (λ t. h)))))
 
-operations-low : (ops : List Operation) (k : ℕ) (r : List ℕ) → ((i : ℕ) → operationOf ops i .value < 4294967296) → Below 4294967296 r → Low (operateTo ops k r)
-unfolding operateTo
-operations-low ops zero r v h = h
-operations-low ops (suc k) r v h =
-    by-pick Low _ (λ e. operate-low (getD ops k noOperation) (operateTo ops k r .registers) (v k) (operations-low ops k r v h)) (λ e. operations-low ops k r v h)
-
-module _ (S : Sheet) (v : (x k : ℕ) → operationOf (txAt S x .operations) k .value < 4294967296) where
-  abbrev LowBook : Book → Type 0
-  LowBook s = Below 4294967296 (s .registers)
-
-  step-low : (s : Book) (e : Event) → LowBook s → LowBook (step S s e)
-  unfolding step booked counted settled operated
-  step-low s e h =
-      by-pick LowBook _
-      (λ t. by-pick LowBook _ (λ u. by-pick LowBook _ (λ w. operations-low (txAt S (e .tx) .operations) _ (s .registers) (v (e .tx)) h) (λ w. h)) (λ u. h))
-      (λ t. h)
-
-  run-low : (s : Book) (l : List Event) → LowBook s → LowBook (runAll S s l)
-  unfolding runAll
-  run-low s [] h = h
-  run-low s (e ∷ l) h = run-low (step S s e) l (step-low s e h)
-
-  zeros-low : (n k : ℕ) → getD (replicate {A = ℕ} n 0) k 0 < 4294967296
-  zeros-low n k = elim (decLt k n) [
-    | yes u ↦ rw (getD-replicate {A = ℕ} n k 0 0 u) (omega arith)
-    | no u ↦ rw (List·getD-eq-default (replicate {A = ℕ} n 0) 0 {n = k} (omega (arith, length-replicate {A = ℕ} n 0))) (omega arith)
-  ]
-
-  registers-low : (R : Rows) (w : View) → LowBook (contracts S R w)
-  unfolding contracts
-  registers-low R w = run-low (emptyBook S) (logEvents R (viewLog S R w)) (zeros-low (S .g))
+registers-low : (S : Sheet) → ((x k : ℕ) → operationOf (txAt S x .operations) k .value < 4294967296) → (R : Rows) (w : View) → Below 4294967296 (contracts S R w .registers)
+registers-low S v R w =
+    registers-keep S (Below 4294967296) (λ x k r h. operate-low (operationOf (txAt S x .operations) k) r (v x k) h) R w (zeros-low 4294967296 (S .g) (omega arith))
 
 -- ---- the report
-
-sum-most : (n b : ℕ) (f : ℕ → ℕ) → ((k : ℕ) → k < n → f k ≤ b) → sumTo n f ≤ b * n
-unfolding sumTo
-sum-most zero b f h = omega arith
-sum-most (suc n) b f h = omega (arith, mul-suc b n, sum-most n b f (λ k l. h k (omega arith)), h n (omega arith))
 
 flip-small : (t : Bool) → flip t ≤ 1
 flip-small true = omega arith
@@ -168,7 +143,7 @@ share-low t st h =
     (λ e. omega (arith, div-le-self (sumTo t (λ x. flip (isPending (st x))) * 1000) t, sum-most t 1 (λ x. flip (isPending (st x))) (λ x l. flip-small (isPending (st x)))))
 
 below-tabulate : (b n : ℕ) (f : ℕ → ℕ) → 0 < b → ((k : ℕ) → k < n → f k < b) → Below b (tabulate n f)
-below-tabulate b n f z h k = elim (decLt k n) [ yes u ↦ rw (getD-tabulate n f k 0 u) (h k u) | no u ↦ rw (tabulate-past n f k 0 (omega arith)) z ]
+below-tabulate b n f z h = tabulate-each (λ (v : ℕ). v < b) n f 0 h z
 
 below-all : (b : ℕ) (f : Ref → ℕ) (l : List Ref) → 0 < b → All (λ (x : Ref). f x < b) l → Below b (map f l)
 below-all b f [] z h k = z

@@ -3,16 +3,16 @@
 use Prim.Native.Nat.{_+_, _<_, _≤_, suc, zero, ℕ}
 use borrow.Author.Tests.{le-ltb}
 use lib.Dec.{eqb, ltb}
-use lib.ListN.{List·getD-eq-default, drop, getD, getD-replicate, length, length-replicate, replicate, set}
+use lib.ListN.{drop, getD, length, length-replicate, replicate, set}
 use lib.Seq.{sets}
 use mathlib.Core.Bool.{Bool, false, true}
 use mathlib.Core.List.{List, [], _∷_}
 use mathlib.Core.Path.{_∙_, _≡_, refl, subst, sym}
-use native.Mathlib.Decide.{decLt}
 use native.Mathlib.Omega.{arith}
 use Rattle.demand.proofs.Opened.{sheet-proper}
+use Rattle.demand.specs.Chain.{noSheet}
 use Rattle.extent.proofs.FrameLaws.{OfFrame, StepOf, body-bytes, four-bytes, step-of}
-use Rattle.extent.proofs.LogLaws.{SheetFits, low-set}
+use Rattle.extent.proofs.LogLaws.{SheetFits, low-set, zeros-low}
 use Rattle.fields.proofs.NumberLaws.{areBytes-drop, take-bytes}
 use Rattle.fields.specs.Number.{AreBytes}
 use Rattle.frames.specs.Frame.{bodyOf, frameAt}
@@ -24,24 +24,21 @@ use Rattle.frames_load.specs.Load.{bodyStored, loadAnswer, loadCells, loadedCel
 use Rattle.refusals.specs.Refusals.{refusalNumber, refusalPlace}
 use Rattle.refusals.specs.declared.Refusal.{Refusal}
 use Rattle.replay.proofs.OpenLaws.{Comes, comes-first, comes-whole, room-small, step-end, step-next, step-refused}
-use Rattle.replay.specs.Opening.{Opened, ended, noLoading, noSheet, openFrom, sheet}
+use Rattle.replay.specs.Opening.{Opened, ended, noLoading, openFrom, sheet}
 use Rattle.sheets.specs.Sheet.{balanceIn, sheetFrom, sheetIn, slotFrom, slotIn, transactionIn}
 use Rattle.state.specs.Loading.{LoadsSheet, afterStep}
 use Rattle.state.specs.State.{complete, freshLedger, kept}
 use Rattle.state.specs.declared.ledger.Ledger.{Ledger}
-use Rattle.sums.proofs.SeqLaws.{getD-tabulate, tabulate-past}
+use Rattle.sums.proofs.FillLaws.{tabulate-each}
 use Rattle.sums.proofs.TestLaws.{by-pick, pick-false}
 use Rattle.sums.specs.Seq.{tabulate}
 use Rattle.transactions.specs.Body.{operationIn, operationsFrom, transactionOf}
-use Rattle.transactions.specs.Content.{noOperation, noTransaction, operationOf}
+use Rattle.transactions.specs.Content.{Operation, Transaction, noOperation, noTransaction, operationOf}
 
 -- ---- a sheet read from cells of bytes
 
 operation-low : (n : ℕ) (s : List ℕ) (k : ℕ) → AreBytes s → operationOf (tabulate n (operationIn s)) k .value < 4294967296
-operation-low n s k h = elim (decLt k n) [
-  | yes u ↦ rw (getD-tabulate n (operationIn s) k noOperation u) (four-bytes s _ h)
-  | no u ↦ rw (tabulate-past n (operationIn s) k noOperation (omega arith)) (omega arith)
-]
+operation-low n s k h = tabulate-each (λ (o : Operation). o .value < 4294967296) n (operationIn s) noOperation (λ i u. four-bytes s _ h) (omega arith) k
 
 transaction-low : (b : List ℕ) (k : ℕ) → AreBytes b → operationOf (transactionOf b .operations) k .value < 4294967296
 unfolding transactionOf
@@ -49,16 +46,12 @@ transaction-low b k h = operation-low (getD b 3 0) (drop (operationsFrom b) b) k
 
 module _ (m a g n : ℕ) (cells : List ℕ) (h : AreBytes cells) where
   values-low : (x k : ℕ) → operationOf (getD (tabulate n (transactionIn a cells)) x noTransaction .operations) k .value < 4294967296
-  values-low x k = elim (decLt x n) [
-    | yes u ↦ rw (getD-tabulate n (transactionIn a cells) x noTransaction u) (transaction-low (slotIn a cells x) k (take-bytes 100 (drop (slotFrom a x) cells) (areBytes-drop (slotFrom a x) cells h)))
-    | no u ↦ rw (tabulate-past n (transactionIn a cells) x noTransaction (omega arith)) (omega arith)
-  ]
+  values-low x k =
+      tabulate-each (λ (y : Transaction). operationOf (y .operations) k .value < 4294967296) n (transactionIn a cells) noTransaction
+      (λ i u. transaction-low (slotIn a cells i) k (take-bytes 100 (drop (slotFrom a i) cells) (areBytes-drop (slotFrom a i) cells h))) (omega arith) x
 
   balances-low : (k : ℕ) → getD (tabulate a (balanceIn cells)) k 0 ≤ 1099511627776
-  balances-low k = elim (decLt k a) [
-    | yes u ↦ rw (getD-tabulate a (balanceIn cells) k 0 u) (omega arith)
-    | no u ↦ rw (tabulate-past a (balanceIn cells) k 0 (omega arith)) (omega arith)
-  ]
+  balances-low k = tabulate-each (λ (n : ℕ). n ≤ 1099511627776) a (balanceIn cells) 0 (λ i u. omega arith) (omega arith) k
 
 -- ---- cells stay bytes
 
@@ -100,7 +93,7 @@ module _ (run : List ℕ) (bytes : AreBytes run) (short : length run ≤ 65536) 
     unfolding sheetIn sheetFrom
     whole-fits e =
         subst OpenedFits (comes-whole run cells at l e c []) (record {
-          proper = sheet-proper l (kept cells [] [] [] []) (c .chain) e;
+          proper = sheet-proper (c .so-far) l (kept cells [] [] [] []) (c .chain) e;
           balances = balances-low (l .loading .m) (l .loading .a) (l .loading .g) (l .loading .t) cells u;
           values = values-low (l .loading .m) (l .loading .a) (l .loading .g) (l .loading .t) cells u;
         })
@@ -108,7 +101,7 @@ module _ (run : List ℕ) (bytes : AreBytes run) (short : length run ≤ 65536) 
     -- the buffer suffices, so that the answer is the step's
     answer-is : loadAnswer run at (l .loading) (length cells) ≡ stepAt run at (l .loading)
     unfolding loadAnswer
-    answer-is = pick-false _ _ _ (le-ltb (length cells) (room (l .loading)) (omega (arith, c .long, room-small l cells (c .chain))))
+    answer-is = pick-false _ _ _ (le-ltb (length cells) (room (l .loading)) (omega (arith, c .long, room-small l cells _ (c .chain))))
 
     loads : (t : Step) → stepAt run at (l .loading) ≡ t → complete l ≡ false → LoadsSheet l run at cells (loadCells run at (l .loading) cells) (afterStep l t)
     loads t q e = record {
@@ -139,16 +132,7 @@ module _ (run : List ℕ) (bytes : AreBytes run) (short : length run ≤ 65536) 
       either (complete l) refl (whole-fits at l cells c u)
       (λ e. by-step at l cells c u (suc k) n e (λ end l' cells' far more d w. go k end l' cells' (omega arith) d w) (stepAt run at (l .loading)) refl)
 
-  zeros : (k : ℕ) → getD (replicate {A = ℕ} 110592 0) k 0 < 256
-  zeros k = elim (decLt k 110592) [
-    | yes h ↦ rw (getD-replicate {A = ℕ} 110592 k 0 0 h) (omega arith)
-    | no h ↦ rw (past h) (omega arith)
-  ]
-    where
-      past : (k < 110592 → ⊥) → getD (replicate {A = ℕ} 110592 0) k 0 ≡ 0
-      past h = List·getD-eq-default (replicate {A = ℕ} 110592 0) 0 {n = k} (omega (arith, length-replicate {A = ℕ} 110592 0))
-
   pub opening-fits : OpenedFits (openFrom (suc (length run)) run 0 noLoading noSheet)
   opening-fits =
       go (length run) 0 freshLedger (replicate 110592 0) (omega arith)
-      (comes-first run (replicate 110592 0) freshLedger refl (omega (arith, length-replicate {A = ℕ} 110592 0))) zeros
+      (comes-first run (replicate 110592 0) freshLedger refl (omega (arith, length-replicate {A = ℕ} 110592 0))) (zeros-low 256 110592 (omega arith))

@@ -66,6 +66,19 @@ pub then-stop : (a b : Answer) (n p : ℕ) → a ≡ refused n p → (a then b) 
 unfolding _then_
 then-stop a b n p e = rw e
 
+-- what is not accepted ends a chain, and no chain that ends so is accepted
+pub then-keep : (a b : Answer) → isAccepted a ≡ false → (a then b) ≡ a
+unfolding _then_
+then-keep accepted b e = cc
+then-keep (refused n p) b e = refl
+then-keep noOffer b e = refl
+
+pub then-not : (a b : Answer) → isAccepted b ≡ false → isAccepted (a then b) ≡ false
+unfolding _then_
+then-not accepted b e = e
+then-not (refused n p) b e = refl
+then-not noOffer b e = refl
+
 -- answers one after the other
 pub then-assoc : (a b c : Answer) → ((a then b) then c) ≡ (a then (b then c))
 unfolding _then_

@@ -1,22 +1,21 @@
 -- One call more in a chain of calls, and the offers whose lent buffers suffice.
 -- Assumes nothing.
-use Prim.Native.Nat.{_*_, _+_, _≤_, ℕ}
+use Prim.Native.Nat.{_≤_, ℕ}
 use borrow.Author.Tests.{eqb-true}
-use lib.ListN.{length}
 use mathlib.Core.Bool.{true}
 use mathlib.Core.List.{List, [], _++_, _∷_, foldl}
 use mathlib.Core.Path.{_∙_, _≡_, ap, refl, sym}
 use native.Mathlib.Omega.{arith}
-use Rattle.demand.specs.Chain.{Calls, Event, InUse, asked, block, load, offered, read, slip, stop}
+use Rattle.demand.specs.Chain.{Calls, Event, InUse, asked, loading, offer, offered, reading, short, stop}
 use Rattle.demand.specs.Claim.{logsOf, offersIn}
+use Rattle.frames.proofs.HeaderLaws.{header-bounds}
 use Rattle.frames.proofs.StepLaws.{due-header-ok}
 use Rattle.offers.specs.Offering.{Offers, replyOf}
 use Rattle.offers.specs.declared.answer.Offered.{Offered}
-use Rattle.plain.specs.Answer.{Answer, _then_, accepted}
+use Rattle.plain.specs.Answer.{Answer, accepted}
 use Rattle.plain.specs.Logs.{Logs, emptyLogs, historyOf}
-use Rattle.plain.specs.Offers.{Offer, frame, offerNeeds}
-use Rattle.plain.specs.Plain.{answer, blockAnswer, frontAnswer, idleAnswer, ledger, lentAnswer, next}
-use Rattle.replay.proofs.OpenLaws.{header-small}
+use Rattle.plain.specs.Offers.{Offer, frame, lentOf, offerNeeds}
+use Rattle.plain.specs.Plain.{answer, frontAnswer, idleAnswer, ledger, lentAnswer, next}
 use Rattle.replay.specs.Inner.{Ample}
 use Rattle.settlement.specs.Tables.{Buffers}
 use Rattle.sheets.proofs.ProperLaws.{ProperSheet}
@@ -27,13 +26,13 @@ use Rattle.state.specs.State.{Kept, complete, lengthsOf, sheetOf, sizesOf}
 use Rattle.state.specs.declared.ledger.Ledger.{Ledger}
 
 -- an event at the end
-more-slip : {l m : Ledger} {K K' K'' : Kept} {es : List Event} (W W' : Buffers) (bytes : List ℕ) (at : ℕ) (r : Offered) → Calls l K es m K' → Offers m K' W (frame (lengthsOf K' W) bytes at) r K'' W'
-    → Calls l K (es ++ (offered (frame (lengthsOf K' W) bytes at) (replyOf (r .answer)) ∷ [])) (r .ledger) K''
-more-slip W W' bytes at r stop p = slip p stop
-more-slip W W' bytes at r (block b cites q c) p = block b cites q (more-slip W W' bytes at r c p)
-more-slip W W' bytes at r (slip q c) p = slip q (more-slip W W' bytes at r c p)
-more-slip W W' bytes at r (read q c) p = read q (more-slip W W' bytes at r c p)
-more-slip W W' bytes at r (load q c) p = load q (more-slip W W' bytes at r c p)
+more-offer : {l m : Ledger} {K K' K'' : Kept} {es : List Event} (W W' : Buffers) (o : Offer) (r : Offered) → lentOf o ≡ lengthsOf K' W → Calls l K es m K' → Offers m K' W o r K'' W'
+    → Calls l K (es ++ (offered o (replyOf (r .answer)) ∷ [])) (r .ledger) K''
+more-offer W W' o r e stop p = offer o e p stop
+more-offer W W' o r e (offer o' e' q c) p = offer o' e' q (more-offer W W' o r e c p)
+more-offer W W' o r e (short o' e' few q c) p = short o' e' few q (more-offer W W' o r e c p)
+more-offer W W' o r e (reading q c) p = reading q (more-offer W W' o r e c p)
+more-offer W W' o r e (loading q c) p = loading q (more-offer W W' o r e c p)
 
 offers-more : (es : List Event) (o : Offer) (a : Answer) → offersIn (es ++ (offered o a ∷ [])) ≡ offersIn es ++ (o ∷ [])
 unfolding offersIn
@@ -51,7 +50,7 @@ logs-more S es o a = ap (foldl (next S) (emptyLogs S)) (offers-more es o a) ∙ 
 
 pub use-more : (S : Sheet) (es : List Event) (l : Ledger) (K K' : Kept) (W W' : Buffers) (bytes : List ℕ) (at : ℕ) (r : Offered) → InUse S es l K → Offers l K W (frame (lengthsOf K W) bytes at) r K' W'
     → InUse S (es ++ (offered (frame (lengthsOf K W) bytes at) (replyOf (r .answer)) ∷ [])) (r .ledger) K'
-use-more S es l K K' W W' bytes at r U p = record { first = U .first; lent = U .lent; opened = U .opened; whole = U .whole; sheet = U .sheet; calls = more-slip W W' bytes at r (U .calls) p }
+use-more S es l K K' W W' bytes at r U p = record { first = U .first; lent = U .lent; opened = U .opened; whole = U .whole; calls = more-offer W W' (frame (lengthsOf K W) bytes at) r refl (U .calls) p }
 
 -- ---- lent lengths that suffice
 
@@ -72,8 +71,8 @@ ample-lent S Q = lent-by S (Q .small) (Q .accounts) (Q .few)
 pub ample-whole : (l : Ledger) (K : Kept) (W : Buffers) → complete l ≡ true → Ample K W → lentAnswer (offerNeeds (sheetOf l K)) (lengthsOf K W) ≡ accepted
 unfolding complete
 ample-whole l K W e A =
-    let h = header-small _ _ _ _ (due-header-ok (l .loading) 4 (omega arith) (eqb-true _ 4 e)) in
-    lent-by (sheetOf l K) (omega (arith, sheet-m (K .sheet) (sizesOf l), h)) (omega (arith, sheet-a (K .sheet) (sizesOf l), h)) (omega (arith, sheet-count (K .sheet) (sizesOf l), h)) K W A
+    let h = header-bounds _ _ _ _ (due-header-ok (l .loading) 4 (omega arith) (eqb-true _ 4 e)) in
+    lent-by (sheetOf l K) (omega (arith, sheet-m (K .sheet) (sizesOf l))) (omega (arith, sheet-a (K .sheet) (sizesOf l))) (omega (arith, sheet-count (K .sheet) (sizesOf l))) K W A
 
 pub least-lent : (S : Sheet) → lentAnswer (offerNeeds S) (offerNeeds S) ≡ accepted
 unfolding offerNeeds

@@ -1,10 +1,8 @@
 -- The line of an answer, arm by arm.
 -- Assumes nothing.
-use Prim.Native.Nat.{_≤_, ℕ}
-use lib.Dec.{leb}
-use mathlib.Core.Bool.{Bool, false, true}
+use Prim.Native.Nat.{ℕ}
 use mathlib.Core.List.{List, []}
-use mathlib.Core.Path.{_∙_, _≡_, ap, refl, sym}
+use mathlib.Core.Path.{_≡_, refl, sym}
 use Rattle.frames.specs.Block as frames
 use Rattle.frames.specs.declared.block.Block.{Block}
 use Rattle.frames.specs.declared.frame.Framed.{Framed}
@@ -29,23 +27,10 @@ pub none-is : (body : List ℕ) (m : ℕ) (a : Answer) → a ≡ Answer.NoByte �
 unfolding answerLine
 none-is body m a h = rw h refl
 
-pub ends-accepted : (a : Answer) → a ≡ Answer.Accepted → false ≡ endsOutput (replyOf a)
-unfolding endsOutput
-ends-accepted a h = rw h refl
+-- whether it ends the output, arm by arm
+pub ends-as : (a b : Answer) → a ≡ b → endsOutput (replyOf b) ≡ endsOutput (replyOf a)
+ends-as a b h = rw h refl
 
-pub ends-refused : (a : Answer) (x : Refusal) (n : ℕ) → n ≡ refusalNumber x → a ≡ Answer.Refused x → leb n 7 ≡ endsOutput (replyOf a)
-unfolding endsOutput
-ends-refused a x n e h = rw (e, h) refl
-
-pub ends-none : (a : Answer) → a ≡ Answer.NoByte → true ≡ endsOutput (replyOf a)
-unfolding endsOutput
-ends-none a h = rw h refl
-
-pub end-is : (f g : Framed) (at k start end : ℕ) → f ≡ g → f ≡ Framed.Whole k start end → end ≡ endOf g at
-end-is f g at k start end e h = rw (sym e, h) refl
-
-pub end-refused : (f g : Framed) (at : ℕ) (x : Refusal) → f ≡ g → f ≡ Framed.Refused x → at ≡ endOf g at
-end-refused f g at x e h = rw (sym e, h) refl
-
-pub end-none : (f g : Framed) (at : ℕ) → f ≡ g → f ≡ Framed.End → at ≡ endOf g at
-end-none f g at e h = rw (sym e, h) refl
+-- where a frame ends, arm by arm
+pub end-as : (f g h : Framed) (at : ℕ) → f ≡ g → f ≡ h → endOf h at ≡ endOf g at
+end-as f g h at e q = rw (sym e, q) refl

@@ -5,11 +5,11 @@ use lib.ListN.{length}
 use mathlib.Core.Bool.{true}
 use mathlib.Core.List.{List, [], _++_}
 use mathlib.Core.Path.{_≡_}
-use Rattle.demand.specs.Chain.{Event, InUse, Opening}
+use Rattle.demand.specs.Chain.{Event, InUse, Opening, noSheet}
 use Rattle.demand.specs.Claim.{logsOf}
 use Rattle.plain.specs.Report.{reportOf}
 use Rattle.refusals.specs.declared.Checked.{Checked}
-use Rattle.replay.specs.Opening.{Opened, ended, noLoading, noSheet, openFrom, sheet}
+use Rattle.replay.specs.Opening.{Opened, ended, noLoading, openFrom, sheet}
 use Rattle.replay.specs.Reading.{blocksText}
 use Rattle.replay.specs.declared.blocks.Blocks as blocks
 use Rattle.replay.specs.declared.opening.Opened as opening
@@ -27,7 +27,7 @@ cameTo Checked.Fine l cells at = sheet (sheetIn cells (sizesOf l)) at
 cameTo (Checked.Refused r) l cells at = ended r
 
 pub record Opens (run cells : List ℕ) (r : opening.Opened) : Type 0 where
-  pub opened : Opening (r .ledger) cells
+  pub opened : (S : Sheet) × Opening (r .ledger) cells S
   pub whole : r .answer ≡ Checked.Fine → complete (r .ledger) ≡ true
   pub came : cameTo (r .answer) (r .ledger) cells (r .at) ≡ openFrom (suc (length run)) run 0 noLoading noSheet
 

@@ -2,26 +2,21 @@
 -- Assumes nothing.
 use Prim.Native.Nat.{suc, zero, ℕ}
 use lib.Dec.{eqb}
-use mathlib.Core.List.{List, []}
+use mathlib.Core.List.{List}
+use Rattle.demand.specs.Chain.{sheetWith}
 use Rattle.frames.specs.Frame.{bodyAt}
 use Rattle.frames.specs.Step.{kindDue, stepAt}
 use Rattle.frames.specs.declared.step.Loading.{Loading}
 use Rattle.frames.specs.declared.step.Step.{Step}
-use Rattle.frames_load.specs.Load.{withBalances, withTransaction}
 use Rattle.refusals.specs.declared.Refusal.{Refusal}
 use Rattle.refusals.specs.declared.Refusal.the-variants.{Short}
 use Rattle.sheets.specs.Sheet.{Sheet}
+use Rattle.state.specs.State.{freshLedger}
 use Rattle.sums.specs.Test.{pick}
 
-abbrev pub noSheet : Sheet
-noSheet = record { m = 0; a = 0; g = 0; balances = []; transactions = [] }
-
+-- before any frame
 abbrev pub noLoading : Loading
-noLoading = record { m = 0; a = 0; g = 0; t = 0; stage = 0; loaded = 0 }
-
--- the sheet so far with the body b of the kind that was due
-unfoldable pub sheetWith : Loading → List ℕ → Sheet → Sheet
-sheetWith s b S = pick (eqb (kindDue s) 2) (withBalances s b) (pick (eqb (kindDue s) 3) (withTransaction S b) S)
+noLoading = freshLedger .loading
 
 -- what the bytes up to the first block say: the sheet, and where the blocks begin; or the refusal that ends the reading
 pub data Opened : Type 0 where

@@ -5,6 +5,7 @@ use lib.Dec.{leb, ltb}
 use lib.ListN.{length}
 use mathlib.Core.Bool.{Bool, false, true}
 use mathlib.Core.List.{List, [], _++_}
+use Rattle.demand.specs.Chain.{noSheet}
 use Rattle.frames.specs.Frame.{frameAt}
 use Rattle.frames.specs.declared.frame.Framed.{Framed}
 use Rattle.plain.specs.Answer.{Answer, accepted, noOffer, refused}
@@ -13,7 +14,7 @@ use Rattle.plain.specs.Offers.{Offer, frame, offerNeeds, offered}
 use Rattle.plain.specs.Plain.{answer, next}
 use Rattle.plain.specs.Report.{reportOf}
 use Rattle.refusals.specs.Refusals.{refusalNumber, refusalPlace}
-use Rattle.replay.specs.Opening.{Opened, ended, noLoading, noSheet, openFrom, sheet}
+use Rattle.replay.specs.Opening.{Opened, ended, noLoading, openFrom, sheet}
 use Rattle.sheets.specs.Sheet.{Sheet, txCount}
 use Rattle.sums.specs.Test.{pick}
 use Rattle.text.specs.Lines.{longLine, okLine, refusedLine, runLine}

@@ -5,7 +5,6 @@ use borrow.Author.Tests.{le-ltb, lt-ltb}
 use lib.Dec.{ltb}
 use lib.ListN.{drop, getD, length}
 use lib.Seq.{sets-eq}
-use mathlib.Core.Bool.{Bool, false, true}
 use mathlib.Core.List.{List, [], _++_, _∷_}
 use mathlib.Core.Path.{_∙_, _≡_, ap, refl, sym}
 use mir.Syntax.{w8}
@@ -13,9 +12,10 @@ use mir.Val.{Fits}
 use native.Mathlib.Omega.{arith}
 use Rattle.admission.specs.Replies.{replyTo}
 use Rattle.extent.proofs.Bound.{text-fits}
-use Rattle.plain.proofs.AnswerLaws.{lent-enough, refuse-false, refuse-true, then-go, then-stop}
-use Rattle.plain.specs.Answer.{Answer, _then_, accepted, isAccepted, refuse, refused}
+use Rattle.plain.proofs.AnswerLaws.{lent-enough, refuse-false, refuse-true, then-accepted, then-go, then-stop}
+use Rattle.plain.specs.Answer.{Answer, _then_, accepted, refuse, refused}
 use Rattle.plain.specs.Plain.{lentAnswer}
+use Rattle.readings.proofs.RoomLaws.{lent-append}
 use Rattle.refusals.specs.Refusals.{refusalNumber, refusalPlace}
 use Rattle.refusals.specs.declared.Checked.{Checked}
 use Rattle.refusals.specs.declared.Refusal.{Refusal}
@@ -29,21 +29,8 @@ use Rattle.text.specs.Wrote.{Wrote}
 -- one buffer more, behind lists of the same length
 module _ (n k : ℕ) where
   both : (needs lent : List ℕ) → length needs ≡ length lent → lentAnswer (needs ++ (n ∷ [])) (lent ++ (k ∷ [])) ≡ (lentAnswer needs lent then refuse (ltb k n) 16 n)
-  unfolding lentAnswer _then_
-  both [] [] e = last (refuse (ltb k n) 16 n)
-    where
-      last : (a : Answer) → (a then accepted) ≡ a
-      last accepted = refl
-      last (refused m p) = refl
-      last Answer.noOffer = refl
-  both [] (x ∷ l) e = absurd (omega arith)
-  both (x ∷ needs) [] e = absurd (omega arith)
-  both (x ∷ needs) (y ∷ lent) e = ap (λ (a : Answer). refuse (ltb y x) 16 x then a) (both needs lent (omega arith)) ∙ join (refuse (ltb y x) 16 x) (lentAnswer needs lent) (refuse (ltb k n) 16 n)
-    where
-      join : (a b c : Answer) → (a then (b then c)) ≡ ((a then b) then c)
-      join accepted b c = refl
-      join (refused m p) b c = refl
-      join Answer.noOffer b c = refl
+  unfolding lentAnswer
+  both needs lent e = sym (lent-append needs lent (n ∷ []) (k ∷ []) e) ∙ ap (λ (a : Answer). lentAnswer needs lent then a) (then-accepted _)
 
 module _ (needs lent : List ℕ) (n k : ℕ) (c : Checked) (e : length needs ≡ length lent) (q : replyTo c ≡ lentAnswer needs lent) where
   pub room-refused : (x : Refusal) → c ≡ Checked.Refused x → refused (refusalNumber x) (refusalPlace x) ≡ lentAnswer (needs ++ (n ∷ [])) (lent ++ (k ∷ []))

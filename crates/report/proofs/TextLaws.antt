@@ -10,7 +10,8 @@ use native.Mathlib.Omega.{arith}
 use Rattle.closing.specs.Closing as closing
 use Rattle.closing.specs.Closing.{Closes}
 use Rattle.demand.proofs.Demand3.{comes, read-right}
-use Rattle.demand.specs.Chain.{Event, InUse, stop}
+use Rattle.demand.proofs.Opened.{sheet-said}
+use Rattle.demand.specs.Chain.{Event, InUse, Opening, noSheet, stop}
 use Rattle.demand.specs.Claim.{logsOf, offersIn}
 use Rattle.plain.specs.Logs.{emptyLogs}
 use Rattle.plain.specs.Plain.{ledger}
@@ -21,7 +22,7 @@ use Rattle.refusals.specs.declared.Checked.{Checked}
 use Rattle.refusals.specs.declared.Refusal.{Refusal}
 use Rattle.replay.specs.Inner.{Ample, Opens, PutsBlocks}
 use Rattle.report.specs.Inner.{PutsOpened}
-use Rattle.replay.specs.Opening.{Opened, ended, noLoading, noSheet, openFrom, sheet}
+use Rattle.replay.specs.Opening.{Opened, ended, noLoading, openFrom, sheet}
 use Rattle.replay.specs.Reading.{blocksText, openedText, readingText}
 use Rattle.replay.specs.declared.blocks.Blocks.{Blocks}
 use Rattle.replay.specs.declared.opening.Opened as opening
@@ -125,5 +126,12 @@ module _ (run : List ℕ) {out out' : List ℕ} {r : ℕ} where
       → PutsOpened run (o .at) (o .ledger) (kept cells ranks cuts cites good) out out' r → Wrote out 0 (readingText run) out' r
   reads-whole {cells} {o} ranks cuts cites good h O e p =
       let K : Kept = kept cells ranks cuts cites good in
-      let U : InUse (sheetOf (o .ledger) K) [] (o .ledger) K = record { first = o .ledger; lent = K; opened = O .opened; whole = O .whole e; sheet = refl; calls = stop } in
+      let (S, chain) = O .opened in
+      let U : InUse (sheetOf (o .ledger) K) [] (o .ledger) K = record {
+        first = o .ledger;
+        lent = K;
+        opened = subst (λ (T : Sheet). Opening (o .ledger) cells T) (sheet-said S (o .ledger) K chain (O .whole e)) chain;
+        whole = O .whole e;
+        calls = stop;
+      } in
       reads-opened (sheet (sheetOf (o .ledger) K) (o .at)) h (rw e at (O .came)) (p .text _ U)
