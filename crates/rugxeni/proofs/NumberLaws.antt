@@ -1,15 +1,14 @@
 -- The ledger's numbers, one by one, and what is said.
 -- Assumes nothing.
-use Prim.Native.Nat.{_+_, _-_, _<_, _≤_, min, suc, zero, ℕ}
-use lib.ListN.{List·getD-eq-default, getD, length, set}
+use Prim.Native.Nat.{_-_, _≤_, min, suc, ℕ}
+use lib.ListN.{getD, length, set}
 use mathlib.Core.List.{List, [], _∷_}
-use mathlib.Core.Path.{_∙_, _≡_, ap, refl, subst, sym}
+use mathlib.Core.Path.{_∙_, _≡_, ap, refl, sym}
 use native.Mathlib.Omega.{arith}
 use Rattle.rugxeni.specs.Numbers.{Said, ledgerIn, numbersOf}
 use Rattle.state.specs.declared.ledger.Ledger.{Ledger}
-use Rattle.sums.proofs.LoopLaws.{written-turn}
 use Rattle.sums.proofs.SeqLaws.{tabulate-is, written-front}
-use Rattle.sums.specs.Seq.{fill, tabulate, written}
+use Rattle.sums.specs.Seq.{fill, written}
 
 pub ledger-made : (n : List ℕ) (m a g t s k : ℕ) (h : List ℕ) → m ≡ getD n 0 0 → a ≡ getD n 1 0 → g ≡ getD n 2 0 → t ≡ getD n 3 0 → s ≡ min (getD n 4 0) 255 → k ≡ getD n 5 0
     → h ≡ ledgerIn n .heights
@@ -41,6 +40,3 @@ said code at value l l' l'' e q = record { returned = refl; written = q ∙ ap (
 
 pub said-as : {n n' p p' v code : ℕ} {l l' : List ℕ} → n ≡ n' → p ≡ p' → Said n p v code l l' → Said n' p' v code l l'
 said-as e q s = record { returned = s .returned ∙ e; written = s .written ∙ rw q refl }
-
-pub front-turn : (l : List ℕ) (n : ℕ) (f : ℕ → ℕ) (a : List ℕ) (v : ℕ) → a ≡ written l 0 n f → v ≡ f n → set a n v ≡ written l 0 (n + 1) f
-front-turn l n f a v e q = let z : 0 + n ≡ n = omega arith in subst (λ (k : ℕ). set a k v ≡ written l 0 (n + 1) f) z (written-turn l 0 n f a v e q)

@@ -3,7 +3,8 @@ use mathlib.Core.Path.{_≡_, _∙_, ap}
 use Prim.Native.Nat.{_≤_, _-_}
 use native.Mathlib.Omega.{arith}
 use lib.ListN.{length, getD}
-use Rattle.rugxeni.proofs.NumberLaws.{kept-numbers, front-turn}
+use Rattle.rugxeni.proofs.NumberLaws.{kept-numbers}
+use Rattle.settlement.proofs.CountCells.{front-turn}
 use Rattle.sums.proofs.LoopLaws.{written-none, written-done}
 use Rattle.sums.specs.Seq.{written}
 use Rattle.sums.proofs.SeqLaws.{length-written, array-length}
