@@ -11,11 +11,12 @@ use Rattle.demand.proofs.Opened.{opened, sheet-proper, sheet-said}
 use Rattle.demand.proofs.Steps.{Beside, offer-answer, offer-beside, outcomes-right, read-told, report-right, short-beside, short-told}
 use Rattle.demand.specs.Chain.{Calls, Event, InUse, loading, offer, reading, short, stop}
 use Rattle.demand.specs.Claim.{Agree, Demand, Plainly, Read, logsOf, offersIn, settlementIn}
+use Rattle.escrow.proofs.FullView.{freeAll, heldAll, logAll}
 use Rattle.escrow.proofs.Growth.{log-grown, outcome-grown, status-grown}
 use Rattle.escrow.proofs.Outcomes.{ProperLogs, outcome-is, outcome-only}
 use Rattle.escrow.proofs.Totals.{adds-up, covers}
 use Rattle.escrow.specs.Outcome.{Citation, InLogs, outcome}
-use Rattle.escrow.specs.Report.{freeAll, heldAll, logAll, statusAll}
+use Rattle.escrow.specs.Report.{statusAll}
 use Rattle.plain.proofs.Follow.{follows-fresh}
 use Rattle.plain.proofs.Kept.{proper}
 use Rattle.plain.proofs.Lists.{starts-extends}

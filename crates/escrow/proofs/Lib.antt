@@ -3,6 +3,7 @@ pub mod Fixpoint
 pub mod Balance
 pub mod AmountsViewOnly
 pub mod Outcomes
+pub mod FullView
 pub mod Growth
 pub mod Totals
 pub mod AmountCells

@@ -10,12 +10,13 @@ use mathlib.Core.List.{List}
 use mathlib.Core.Path.{_∙_, _≡_, ap, refl, subst, sym}
 use native.Mathlib.Decide.{ℕ-discrete}
 use native.Mathlib.Omega.{arith}
+use Rattle.escrow.proofs.FullView.{freeAll, heldAll}
 use Rattle.escrow.proofs.Balance.{Keeps, no-overdraft, total}
 use Rattle.escrow.proofs.Growth.{Extends, full-asc, full-once}
 use Rattle.escrow.proofs.Outcomes.{ProperLogs, outcome-is, view-inside, viewOf-own}
 use Rattle.escrow.specs.Amounts.{coveredBy, credited, free, freeBy, held, isPaid, partGood, reserved}
 use Rattle.escrow.specs.Outcome.{History, citation, fullView, judge, outcome, rowsOf, viewOf}
-use Rattle.escrow.specs.Report.{freeAll, heldAll, rowsAll, statusAll}
+use Rattle.escrow.specs.Report.{rowsAll, statusAll}
 use Rattle.transactions.specs.Content.{Entry, Transaction, entryOf, noTransaction}
 use Rattle.settlement.proofs.StatusLaws.{Once, booked-once, paid-whole, status-keeps}
 use Rattle.settlement.specs.Contracts.{Status, paid, pending, returned}

@@ -2,13 +2,11 @@
 -- Assumes nothing.
 use Prim.Native.Nat.{_*_, _/_, ℕ}
 use lib.Dec.{eqb}
-use mathlib.Core.List.{List}
-use Rattle.escrow.specs.Amounts.{free, held, isPending}
+use Rattle.escrow.specs.Amounts.{isPending}
 use Rattle.escrow.specs.Outcome.{History, fullView, outcome, rowsOf}
-use Rattle.ordering.specs.Order.{Ref}
 use Rattle.settlement.specs.Contracts.{Status}
 use Rattle.settlement.specs.Settlement.{status}
-use Rattle.settlement.specs.View.{Rows, viewLog}
+use Rattle.settlement.specs.View.{Rows}
 use Rattle.sheets.specs.Sheet.{Sheet}
 use Rattle.sums.specs.Sum.{sumTo}
 use Rattle.sums.specs.Test.{flip, pick}
@@ -17,20 +15,9 @@ use Rattle.sums.specs.Test.{flip, pick}
 unfoldable pub rowsAll : Sheet → History → Rows
 rowsAll S H = rowsOf H (outcome S H)
 
--- `log`
-unfoldable pub logAll : Sheet → History → List Ref
-logAll S H = viewLog S (rowsAll S H) (fullView H)
-
--- `tx`: the settlement of transaction x
+-- `tx`: the settlement of transaction x in the full view
 unfoldable pub statusAll : Sheet → History → ℕ → Status
 statusAll S H = status S (rowsAll S H) (fullView H)
-
--- `account`: free, held
-unfoldable pub freeAll : Sheet → History → ℕ → ℕ
-freeAll S H = free S (rowsAll S H) (fullView H)
-
-unfoldable pub heldAll : Sheet → History → ℕ → ℕ
-heldAll S H = held S (rowsAll S H) (fullView H)
 
 -- `share`: "settled transactions (paid or returned) in thousandths of t, rounded down, 1000 if t is 0"
 unfoldable pub shareOf : ℕ → (ℕ → Status) → ℕ

@@ -12,10 +12,11 @@ use native.Mathlib.Decide.{decLt, ℕ-discrete}
 use native.Mathlib.Nat.{div-le-self}
 use native.Mathlib.Omega.{arith}
 use Rattle.closing.proofs.RegisterLaws.{registers-count, registers-keep}
+use Rattle.escrow.proofs.FullView.{freeAll, heldAll}
 use Rattle.escrow.proofs.Totals.{adds-up}
 use Rattle.escrow.specs.Amounts.{isPending}
 use Rattle.escrow.specs.Outcome.{History, fullView}
-use Rattle.escrow.specs.Report.{freeAll, heldAll, rowsAll, shareOf}
+use Rattle.escrow.specs.Report.{rowsAll, shareOf}
 use Rattle.ordering.proofs.LogSum.{log-size}
 use Rattle.ordering.proofs.Prefix.{all-log}
 use Rattle.ordering.specs.Order.{Ref}
@@ -36,7 +37,7 @@ use Rattle.settlement.specs.View.{Rows, View, viewLog}
 use Rattle.sheets.proofs.ProperLaws.{ProperSheet}
 use Rattle.sheets.specs.Operations.{Done, operate}
 use Rattle.sheets.specs.Sheet.{Sheet, balance, txAt, txCount}
-use Rattle.sums.proofs.FillLaws.{tabulate-each}
+use Rattle.sums.proofs.FillLaws.{each-tabulated}
 use Rattle.sums.proofs.LoopLaws.{sum-most}
 use Rattle.sums.proofs.SeqLaws.{length-tabulate}
 use Rattle.sums.proofs.SumLaws.{sum-term}
@@ -143,7 +144,7 @@ share-low t st h =
     (λ e. omega (arith, div-le-self (sumTo t (λ x. flip (isPending (st x))) * 1000) t, sum-most t 1 (λ x. flip (isPending (st x))) (λ x l. flip-small (isPending (st x)))))
 
 below-tabulate : (b n : ℕ) (f : ℕ → ℕ) → 0 < b → ((k : ℕ) → k < n → f k < b) → Below b (tabulate n f)
-below-tabulate b n f z h = tabulate-each (λ (v : ℕ). v < b) n f 0 h z
+below-tabulate b n f z h = each-tabulated (λ (v : ℕ). v < b) n f 0 h z
 
 below-all : (b : ℕ) (f : Ref → ℕ) (l : List Ref) → 0 < b → All (λ (x : Ref). f x < b) l → Below b (map f l)
 below-all b f [] z h k = z

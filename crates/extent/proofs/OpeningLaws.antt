@@ -29,7 +29,7 @@ use Rattle.sheets.specs.Sheet.{balanceIn, sheetFrom, sheetIn, slotFrom, slotIn,
 use Rattle.state.specs.Loading.{LoadsSheet, afterStep}
 use Rattle.state.specs.State.{complete, freshLedger, kept}
 use Rattle.state.specs.declared.ledger.Ledger.{Ledger}
-use Rattle.sums.proofs.FillLaws.{tabulate-each}
+use Rattle.sums.proofs.FillLaws.{each-tabulated}
 use Rattle.sums.proofs.TestLaws.{by-pick, pick-false}
 use Rattle.sums.specs.Seq.{tabulate}
 use Rattle.transactions.specs.Body.{operationIn, operationsFrom, transactionOf}
@@ -38,7 +38,7 @@ use Rattle.transactions.specs.Content.{Operation, Transaction, noOperation, noT
 -- ---- a sheet read from cells of bytes
 
 operation-low : (n : ℕ) (s : List ℕ) (k : ℕ) → AreBytes s → operationOf (tabulate n (operationIn s)) k .value < 4294967296
-operation-low n s k h = tabulate-each (λ (o : Operation). o .value < 4294967296) n (operationIn s) noOperation (λ i u. four-bytes s _ h) (omega arith) k
+operation-low n s k h = each-tabulated (λ (o : Operation). o .value < 4294967296) n (operationIn s) noOperation (λ i u. four-bytes s _ h) (omega arith) k
 
 transaction-low : (b : List ℕ) (k : ℕ) → AreBytes b → operationOf (transactionOf b .operations) k .value < 4294967296
 unfolding transactionOf
@@ -47,11 +47,11 @@ transaction-low b k h = operation-low (getD b 3 0) (drop (operationsFrom b) b) k
 module _ (m a g n : ℕ) (cells : List ℕ) (h : AreBytes cells) where
   values-low : (x k : ℕ) → operationOf (getD (tabulate n (transactionIn a cells)) x noTransaction .operations) k .value < 4294967296
   values-low x k =
-      tabulate-each (λ (y : Transaction). operationOf (y .operations) k .value < 4294967296) n (transactionIn a cells) noTransaction
+      each-tabulated (λ (y : Transaction). operationOf (y .operations) k .value < 4294967296) n (transactionIn a cells) noTransaction
       (λ i u. transaction-low (slotIn a cells i) k (take-bytes 100 (drop (slotFrom a i) cells) (areBytes-drop (slotFrom a i) cells h))) (omega arith) x
 
   balances-low : (k : ℕ) → getD (tabulate a (balanceIn cells)) k 0 ≤ 1099511627776
-  balances-low k = tabulate-each (λ (n : ℕ). n ≤ 1099511627776) a (balanceIn cells) 0 (λ i u. omega arith) (omega arith) k
+  balances-low k = each-tabulated (λ (n : ℕ). n ≤ 1099511627776) a (balanceIn cells) 0 (λ i u. omega arith) (omega arith) k
 
 -- ---- cells stay bytes
 

@@ -26,8 +26,8 @@ tabulate-front f l n h =
     ∙ ap (map f) (tabulate-is (take n l) n (λ k. getD l k 0) 0 (omega (arith, length-take n l)) (λ i u. sym (getD-take n l i 0 u)))
 
 -- what every element of a table has, and the default, every place has
-pub tabulate-each : {A : Type 0} (P : A → Type 0) (n : ℕ) (f : ℕ → A) (d : A) → ((k : ℕ) → k < n → P (f k)) → P d → (k : ℕ) → P (getD (tabulate n f) k d)
-tabulate-each P n f d h z k = elim (decLt k n) [ yes u ↦ rw (getD-tabulate n f k d u) (h k u) | no u ↦ rw (tabulate-past n f k d (omega arith)) z ]
+pub each-tabulated : {A : Type 0} (P : A → Type 0) (n : ℕ) (f : ℕ → A) (d : A) → ((k : ℕ) → k < n → P (f k)) → P d → (k : ℕ) → P (getD (tabulate n f) k d)
+each-tabulated P n f d h z k = elim (decLt k n) [ yes u ↦ rw (getD-tabulate n f k d u) (h k u) | no u ↦ rw (tabulate-past n f k d (omega arith)) z ]
 
 -- ---- the front of what was written over, and what is behind it
 
