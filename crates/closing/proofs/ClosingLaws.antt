@@ -8,6 +8,7 @@ use mathlib.Core.Path.{_∙_, _≡_, ap, ap₂, fun-ext, sym}
 use native.Mathlib.Omega.{arith}
 use Rattle.closing.proofs.RegisterLaws.{registers-count}
 use Rattle.closing.specs.Closing.{Ample, Closes}
+use Rattle.closing.specs.Inner.{Long, Takes}
 use Rattle.frames.proofs.HeaderLaws.{HeaderBounds}
 use Rattle.ordering.proofs.Usable.{ordered}
 use Rattle.ordering.specs.Order.{Ref, globalLog}
@@ -160,7 +161,7 @@ module _ (l : Ledger) (whole : complete l ≡ true) (K : Kept) (W : Buffers) (am
   unfolding readAnswer workNeeds fillNeeds
   share-read R = told _ _ _ share _ [] _ _ _ (R .tells) (fine [] [] lent-end) .0
 
--- ---- all five
+-- ---- all that settle
 
 module _ {l : Ledger} {K : Kept} {W W1 W2 W3 W4 : Buffers} {c c' f h f' h' g g' : List ℕ} {a1 a2 a3 a4 : Answer} {k : ℕ}
     (txs : Reads l K W settlements (c ∷ []) a1 0 W1 (c' ∷ [])) (amounts : Reads l K W1 accounts (f ∷ h ∷ []) a2 0 W2 (f' ∷ h' ∷ []))
@@ -174,19 +175,25 @@ module _ {l : Ledger} {K : Kept} {W W1 W2 W3 W4 : Buffers} {c c' f h f' h' g g' 
   pub to-last : Beyond (sizesOf l) W W4
   to-last = beyond-then (sizesOf l) W W3 W4 to-third (settled .beyond)
 
-  module _ {z : Sizes} (ez : z ≡ sizesOf l) (pre : (complete l ≡ true) × Ample K W) {i s i' s' : List ℕ} {a : Answer} {n : ℕ} {W' : Buffers}
-      (logged : Reads l (lentRanks (K .ranks)) noBuffers log (i ∷ s ∷ []) a n W' (i' ∷ s' ∷ [])) where
-    pub closed : length i ≡ 2048 → length s ≡ 2048 → length c ≡ 1024 → length f ≡ 1024 → length h ≡ 1024 → length g ≡ 64 → {out out' : List ℕ} {at r : ℕ}
-        → Wrote out at (listsText (take n i') (take n s') (take (z .t) c') (take (z .a) f') (take (z .a) h') (take (z .g) g') k) out' r
-        → Closes l K W out at W4 out' r
-    closed ei es ec ef eh eg w = record {
-      text = wrote-as
-          (ap (λ (y : Sizes). listsText (take n i') (take n s') (take (y .t) c') (take (y .a) f') (take (y .a) h') (take (y .g) g') k) ez
-          ∙ ap (listsText (take n i') (take n s') (take (l .loading .t) c') (take (l .loading .a) f') (take (l .loading .a) h') (take (l .loading .g) g'))
-          (share-read l (pre .0) K W3 (ample-still _ K W W3 (pre .1) to-third) settled)
-          ∙ tail-of (reportIn l K) _ _ _ _ _ _ (log-read l (pre .0) K (pre .1 .ranks) ei es logged) (settlements-read l (pre .0) K W (pre .1) ec txs)
-          (accounts-read l (pre .0) K W1 (ample-still _ K W W1 (pre .1) (txs .beyond)) ef eh amounts)
-          (registers-read l (pre .0) K W2 (ample-still _ K W W2 (pre .1) to-second) eg cells))
-          w;
-      beyond = to-last;
-    }
+  pub taken : (complete l ≡ true) × Ample K W × Long c f h g → Takes l K W k W4 c' f' h' g'
+  taken (whole, room, long) = record {
+    settled = settlements-read l whole K W room (long .transactions) txs;
+    amounts = accounts-read l whole K W1 (ample-still _ K W W1 room (txs .beyond)) (long .accounts) (long .accounts-too) amounts;
+    registers = registers-read l whole K W2 (ample-still _ K W W2 room to-second) (long .registers) cells;
+    share = share-read l whole K W3 (ample-still _ K W W3 room to-third) settled;
+    beyond = to-last;
+  }
+
+-- ---- and the log: the text
+
+pub closed : {l : Ledger} {K : Kept} {W W' U : Buffers} {c f h g i s i' s' : List ℕ} {k : ℕ} {z : Sizes} {a : Answer} {n : ℕ} {out out' : List ℕ} {at r : ℕ} → Takes l K W k W' c f h g → z ≡ sizesOf l
+    → (complete l ≡ true) × Ample K W → Reads l (lentRanks (K .ranks)) noBuffers log (i ∷ s ∷ []) a n U (i' ∷ s' ∷ []) → length i ≡ 2048 → length s ≡ 2048
+    → Wrote out at (listsText (take n i') (take n s') (take (z .t) c) (take (z .a) f) (take (z .a) h) (take (z .g) g) k) out' r → Closes l K W out at W' out' r
+closed {l} {K} {c = c} {f} {h} {g} {i' = i'} {s'} {k} {n = n} t ez pre logged ei es w = record {
+  text = wrote-as
+      (ap (λ (y : Sizes). listsText (take n i') (take n s') (take (y .t) c) (take (y .a) f) (take (y .a) h) (take (y .g) g) k) ez
+      ∙ ap (listsText (take n i') (take n s') (take (l .loading .t) c) (take (l .loading .a) f) (take (l .loading .a) h) (take (l .loading .g) g)) (t .share)
+      ∙ tail-of (reportIn l K) _ _ _ _ _ _ (log-read l (pre .0) K (pre .1 .ranks) ei es logged) (t .settled) (t .amounts) (t .registers))
+      w;
+  beyond = t .beyond;
+}

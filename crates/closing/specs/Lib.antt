@@ -1,2 +1,3 @@
 -- What the end of a reading promises.
 pub mod Closing
+pub mod Inner

@@ -11,8 +11,45 @@ ghost use mathlib.Core.Bool.{true};
 ghost use mathlib.Core.List.{[]};
 ghost use mathlib.Core.Path.{_≡_};
 ghost use Rattle.closing.specs.Closing.{Ample, Closes};
+ghost use Rattle.closing.specs.Inner.{Long, Takes};
 ghost use Rattle.settlement.specs.Tables.{buffers};
 ghost use Rattle.state.specs.State.{complete, kept};
+
+// Takes the readings that settle, each into its list, and tells the share.
+fn take_settled(
+    ledger: Ledger,
+    sheet: &[u8],
+    ranks: &[u32],
+    cites: &[u16],
+    good: &[u8],
+    counts: &mut [u32],
+    table: &mut [u8],
+    order: &mut [u16],
+    txs: &mut [u8],
+    free: &mut [u64],
+    held: &mut [u64],
+    regs: &mut [u32],
+) -> u32
+    requires { ⌜ (complete ledger ≡ true) × Ample (kept (now sheet) (now ranks) [] (now cites) (now good)) (buffers (now counts) (now table) (now order)) × Long (now txs) (now free) (now held) (now regs) ⌝ }
+    ensures { λ r. ⌜ Takes ledger (kept (now (sheet .entry)) (now (ranks .entry)) [] (now (cites .entry)) (now (good .entry))) (buffers (now (counts .entry)) (now (table .entry)) (now (order .entry))) r (buffers (now (counts .exit)) (now (table .exit)) (now (order .exit))) (now (txs .exit)) (now (free .exit)) (now (held .exit)) (now (regs .exit)) ⌝ }
+{
+    let _txs = settlements(ledger, sheet, ranks, cites, good, counts, table, order, txs);
+    let _amounts = accounts(
+        ledger,
+        sheet,
+        ranks,
+        cites,
+        good,
+        counts,
+        table,
+        order,
+        free,
+        held,
+    );
+    let _cells = registers(ledger, sheet, ranks, cites, good, counts, table, order, regs);
+    let settled = share(ledger, sheet, ranks, cites, good, counts, table, order);
+    settled.value
+}
 
 // Writes them at an offset, and tells where they end. The lists are as long as any sheet needs, so that no call is refused.
 pub fn put_readings(
@@ -45,7 +82,7 @@ pub fn put_readings(
     let mut held = [0u64; 1024];
     let mut cells = [0u32; 64];
     let blocks = log(ledger, ranks, &mut instances, &mut numbers);
-    let _txs = settlements(
+    let settled = take_settled(
         ledger,
         sheet,
         ranks,
@@ -55,36 +92,14 @@ pub fn put_readings(
         table,
         order,
         &mut statuses,
-    );
-    let _amounts = accounts(
-        ledger,
-        sheet,
-        ranks,
-        cites,
-        good,
-        counts,
-        table,
-        order,
         &mut free,
         &mut held,
-    );
-    let _cells = registers(
-        ledger,
-        sheet,
-        ranks,
-        cites,
-        good,
-        counts,
-        table,
-        order,
         &mut cells,
     );
-    let settled = share(ledger, sheet, ranks, cites, good, counts, table, order);
-    let n = blocks.value as usize;
     put_tail(
         out,
         at,
-        n,
+        blocks.value as usize,
         &instances,
         &numbers,
         z.t,
@@ -94,6 +109,6 @@ pub fn put_readings(
         &held,
         z.g,
         &cells,
-        settled.value,
+        settled,
     )
 }
