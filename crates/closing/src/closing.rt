@@ -28,10 +28,10 @@ fn take_settled(
     txs: &mut [u8],
     free: &mut [u64],
     held: &mut [u64],
-    regs: &mut [u32],
+    cells: &mut [u32],
 ) -> u32
-    requires { ⌜ (complete ledger ≡ true) × Ample (kept (now sheet) (now ranks) [] (now cites) (now good)) (buffers (now counts) (now table) (now order)) × Long (now txs) (now free) (now held) (now regs) ⌝ }
-    ensures { λ r. ⌜ Takes ledger (kept (now (sheet .entry)) (now (ranks .entry)) [] (now (cites .entry)) (now (good .entry))) (buffers (now (counts .entry)) (now (table .entry)) (now (order .entry))) r (buffers (now (counts .exit)) (now (table .exit)) (now (order .exit))) (now (txs .exit)) (now (free .exit)) (now (held .exit)) (now (regs .exit)) ⌝ }
+    requires { ⌜ (complete ledger ≡ true) × Ample (kept (now sheet) (now ranks) [] (now cites) (now good)) (buffers (now counts) (now table) (now order)) × Long (now txs) (now free) (now held) (now cells) ⌝ }
+    ensures { λ r. ⌜ Takes ledger (kept (now (sheet .entry)) (now (ranks .entry)) [] (now (cites .entry)) (now (good .entry))) (buffers (now (counts .entry)) (now (table .entry)) (now (order .entry))) r (buffers (now (counts .exit)) (now (table .exit)) (now (order .exit))) (now (txs .exit)) (now (free .exit)) (now (held .exit)) (now (cells .exit)) ⌝ }
 {
     let _txs = settlements(ledger, sheet, ranks, cites, good, counts, table, order, txs);
     let _amounts = accounts(
@@ -46,7 +46,17 @@ fn take_settled(
         free,
         held,
     );
-    let _cells = registers(ledger, sheet, ranks, cites, good, counts, table, order, regs);
+    let _cells = registers(
+        ledger,
+        sheet,
+        ranks,
+        cites,
+        good,
+        counts,
+        table,
+        order,
+        cells,
+    );
     let settled = share(ledger, sheet, ranks, cites, good, counts, table, order);
     settled.value
 }
