@@ -30,8 +30,18 @@ fn take_settled(
     held: &mut [u64],
     cells: &mut [u32],
 ) -> u32
-    requires { ⌜ (complete ledger ≡ true) × Ample (kept (now sheet) (now ranks) [] (now cites) (now good)) (buffers (now counts) (now table) (now order)) × Long (now txs) (now free) (now held) (now cells) ⌝ }
-    ensures { λ r. ⌜ Takes ledger (kept (now (sheet .entry)) (now (ranks .entry)) [] (now (cites .entry)) (now (good .entry))) (buffers (now (counts .entry)) (now (table .entry)) (now (order .entry))) r (buffers (now (counts .exit)) (now (table .exit)) (now (order .exit))) (now (txs .exit)) (now (free .exit)) (now (held .exit)) (now (cells .exit)) ⌝ }
+    requires { ⌜ (complete ledger ≡ true)
+        × Ample (kept (now sheet) (now ranks) [] (now cites) (now good)) (buffers (now counts) (now table) (now order))
+        × Long (now txs) (now free) (now held) (now cells) ⌝ }
+    ensures { λ r. ⌜ Takes ledger
+        (kept (now (sheet .entry)) (now (ranks .entry)) [] (now (cites .entry)) (now (good .entry)))
+        (buffers (now (counts .entry)) (now (table .entry)) (now (order .entry)))
+        r
+        (buffers (now (counts .exit)) (now (table .exit)) (now (order .exit)))
+        (now (txs .exit))
+        (now (free .exit))
+        (now (held .exit))
+        (now (cells .exit)) ⌝ }
 {
     let _txs = settlements(ledger, sheet, ranks, cites, good, counts, table, order, txs);
     let _amounts = accounts(
