@@ -7,16 +7,17 @@ use mathlib.Core.Path.{_≡_}
 use Rattle.frames.specs.declared.block.Block.{Block}
 use Rattle.offers.specs.Offering.{Offers, replyOf}
 use Rattle.offers.specs.declared.answer.Offered.{Offered}
-use Rattle.plain.specs.Answer.{Answer}
+use Rattle.plain.specs.Answer.{Answer, isAccepted}
 use Rattle.plain.specs.Offers.{Offer}
 use Rattle.plain.specs.Report.{Query}
 use Rattle.readings.specs.Reading.{Reads}
-use Rattle.rugxeni.specs.Numbers.{Said, ledgerIn, loadNumber, loadPlace, numberOf, numbersOf, placeOf, size}
+use Rattle.rugxeni.specs.Numbers.{Said, isTaken, ledgerIn, loadNumber, loadPlace, numberOf, numbersOf, placeOf, size}
 use Rattle.settlement.specs.Tables.{Buffers}
 use Rattle.state.specs.Loading.{LoadsSheet}
 use Rattle.state.specs.State.{Kept}
 use Rattle.state.specs.declared.load.Loaded.{Loaded}
 use Rattle.sums.specs.Seq.{fill, tabulate}
+use Rattle.sums.specs.Test.{pick}
 
 -- the first sixteen entries of a lent cut, 0 where there are fewer
 unfoldable pub cutIn : List ℕ → List ℕ
@@ -25,15 +26,17 @@ cutIn cut = tabulate 16 (λ e. getD cut e 0)
 abbrev pub blockWith : ℕ → ℕ → ℕ → List ℕ → Block
 blockWith instance sequence rank cut = record { instance = instance; sequence = record { 0 = sequence }; rank = record { 0 = rank }; cut = cutIn cut }
 
+-- only a frame that is taken changes the numbers
 pub record LoadCall (numbers run : List ℕ) (at : ℕ) (sheet told : List ℕ) (code : ℕ) (numbers' sheet' told' : List ℕ) : Type 0 where
   pub short : length numbers < size → Said 16 size 0 code told told' × (numbers' ≡ numbers) × (sheet' ≡ sheet)
   pub loads : size ≤ length numbers → (r : Loaded) × LoadsSheet (ledgerIn numbers) run at sheet sheet' r
-      × (numbers' ≡ fill (numbersOf (r .ledger)) numbers) × Said (loadNumber (r .answer)) (loadPlace (r .answer)) 0 code told told'
+      × (numbers' ≡ pick (isTaken (r .answer)) (fill (numbersOf (r .ledger)) numbers) numbers) × Said (loadNumber (r .answer)) (loadPlace (r .answer)) 0 code told told'
 
+-- only an accepted offer changes the numbers
 pub record OfferCall (numbers : List ℕ) (K : Kept) (W : Buffers) (o : Offer) (told : List ℕ) (code : ℕ) (numbers' : List ℕ) (K' : Kept) (W' : Buffers) (told' : List ℕ) : Type 0 where
   pub short : length numbers < size → Said 16 size 0 code told told' × (numbers' ≡ numbers) × (K' ≡ K) × (W' ≡ W)
   pub offers : size ≤ length numbers → (r : Offered) × Offers (ledgerIn numbers) K W o r K' W'
-      × (numbers' ≡ fill (numbersOf (r .ledger)) numbers) × Said (numberOf (replyOf (r .answer))) (placeOf (replyOf (r .answer))) 0 code told told'
+      × (numbers' ≡ pick (isAccepted (replyOf (r .answer))) (fill (numbersOf (r .ledger)) numbers) numbers) × Said (numberOf (replyOf (r .answer))) (placeOf (replyOf (r .answer))) 0 code told told'
 
 pub record ReadCall (numbers : List ℕ) (K : Kept) (W : Buffers) (q : Query) (outs : List (List ℕ)) (told : List ℕ) (code : ℕ) (W' : Buffers) (outs' : List (List ℕ)) (told' : List ℕ) : Type 0 where
   pub short : length numbers < size → Said 16 size 0 code told told' × (W' ≡ W) × (outs' ≡ outs)

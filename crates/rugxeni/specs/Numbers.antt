@@ -2,6 +2,7 @@
 -- Assumes nothing.
 use Prim.Native.Nat.{_+_, min, ℕ}
 use lib.ListN.{getD}
+use mathlib.Core.Bool.{Bool, false, true}
 use mathlib.Core.List.{List, [], _∷_}
 use mathlib.Core.Path.{_≡_}
 use Rattle.plain.specs.Answer.{Answer, accepted, noOffer, refused}
@@ -45,6 +46,12 @@ abbrev pub loadPlace : Taken → ℕ
 loadPlace (Taken.Next end) = end
 loadPlace (Taken.Refused r) = refusalPlace r
 loadPlace Taken.Complete = 0
+
+-- a frame was taken
+abbrev pub isTaken : Taken → Bool
+isTaken (Taken.Next end) = true
+isTaken (Taken.Refused r) = false
+isTaken Taken.Complete = false
 
 -- the number is returned; the place, and a value where there is one, go to the first two places of a lent slice, as far as it goes.
 -- That slice is the answer and no buffer that refusal 16 speaks of: who lends fewer than two places forgoes the rest

@@ -1,6 +1,7 @@
 // The sheet, loaded frame by frame.
 use crate::numbers::keep_ledger;
 use crate::numbers::ledger_in;
+use crate::replies::is_taken;
 use crate::replies::say_short;
 use crate::replies::say_taken;
 use state::load::load_sheet;
@@ -31,6 +32,6 @@ pub extern "C" fn rugxeni_load(
     }
     let loaded = load_sheet(ledger_in(numbers), run, at, sheet);
     let answer = loaded.answer;
-    keep_ledger(numbers, loaded.ledger);
+    keep_ledger(numbers, loaded.ledger, is_taken(answer));
     say_taken(answer, told)
 }

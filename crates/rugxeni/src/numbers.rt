@@ -7,6 +7,7 @@ ghost use lib.ListN.{getD, set};
 ghost use mathlib.Core.Path.{_≡_};
 ghost use Rattle.rugxeni.specs.Numbers.{ledgerIn, numbersOf};
 ghost use Rattle.sums.specs.Seq.{fill};
+ghost use Rattle.sums.specs.Test.{pick};
 
 // Number i; 0 where there is none.
 pub fn number_at(numbers: &[u16], i: usize) -> u16
@@ -82,10 +83,19 @@ fn put_number(numbers: &mut [u16], i: usize, v: u16)
     }
 }
 
-pub fn keep_ledger(numbers: &mut [u16], ledger: Ledger)
+fn write_ledger(numbers: &mut [u16], ledger: Ledger)
     ensures { λ _. ⌜ now (numbers .exit) ≡ fill (numbersOf ledger) (now (numbers .entry)) ⌝ }
 {
     for i in 0..22u16 {
         put_number(numbers, i as usize, number_of(ledger, i));
+    }
+}
+
+// The ledger is written where the call was taken; a refused one leaves the numbers as they were.
+pub fn keep_ledger(numbers: &mut [u16], ledger: Ledger, taken: bool)
+    ensures { λ _. ⌜ now (numbers .exit) ≡ pick taken (fill (numbersOf ledger) (now (numbers .entry))) (now (numbers .entry)) ⌝ }
+{
+    if taken {
+        write_ledger(numbers, ledger);
     }
 }

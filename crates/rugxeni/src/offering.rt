@@ -2,6 +2,7 @@
 use crate::numbers::keep_ledger;
 use crate::numbers::ledger_in;
 use crate::numbers::number_at;
+use crate::replies::is_accepted;
 use crate::replies::say_offer;
 use crate::replies::say_short;
 use frames::block::Block;
@@ -72,7 +73,7 @@ pub extern "C" fn rugxeni_offer_frame(
         at,
     );
     let answer = done.answer;
-    keep_ledger(numbers, done.ledger);
+    keep_ledger(numbers, done.ledger, is_accepted(answer));
     say_offer(answer, told)
 }
 
@@ -132,6 +133,6 @@ pub extern "C" fn rugxeni_offer_block(
         citations,
     );
     let answer = done.answer;
-    keep_ledger(numbers, done.ledger);
+    keep_ledger(numbers, done.ledger, is_accepted(answer));
     say_offer(answer, told)
 }

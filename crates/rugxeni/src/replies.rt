@@ -8,7 +8,8 @@ ghost use lib.ListN.{set};
 ghost use mathlib.Core.Path.{_≡_};
 ghost use Rattle.admission.specs.Replies.{replyTo};
 ghost use Rattle.offers.specs.Offering.{replyOf};
-ghost use Rattle.rugxeni.specs.Numbers.{Said, loadNumber, loadPlace, numberOf, placeOf};
+ghost use Rattle.plain.specs.Answer.{isAccepted};
+ghost use Rattle.rugxeni.specs.Numbers.{Said, isTaken, loadNumber, loadPlace, numberOf, placeOf};
 
 fn put_told(told: &mut [u64], i: usize, v: u64)
     ensures { λ _. ⌜ now (told .exit) ≡ set (now (told .entry)) i v ⌝ }
@@ -31,6 +32,27 @@ pub fn say_short(told: &mut [u64]) -> u16
     ensures { λ r. ⌜ Said 16 22 0 r (now (told .entry)) (now (told .exit)) ⌝ }
 {
     say(16, 22, 0, told)
+}
+
+pub fn is_accepted(answer: Answer) -> bool
+    ensures { λ r. ⌜ r ≡ isAccepted (replyOf answer) ⌝ }
+{
+    match answer {
+        Answer::Accepted => true,
+        Answer::Refused(_) => false,
+        Answer::NoByte => false,
+    }
+}
+
+// A frame of the sheet was taken.
+pub fn is_taken(answer: Taken) -> bool
+    ensures { λ r. ⌜ r ≡ isTaken answer ⌝ }
+{
+    match answer {
+        Taken::Next(_) => true,
+        Taken::Refused(_) => false,
+        Taken::Complete => false,
+    }
 }
 
 pub fn say_offer(answer: Answer, told: &mut [u64]) -> u16
