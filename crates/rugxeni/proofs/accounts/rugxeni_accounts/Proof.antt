@@ -1,8 +1,8 @@
 use borrow.Author.Needs.{needs}
 use Rattle.rugxeni.proofs.CallLaws.{read-short, read-done}
 use Rattle.admission.specs.Replies.{replyTo}
-use Rattle.rugxeni.proofs.reading.rugxeni_accounts.Statement.{statement}
-use Rattle.rugxeni.proofs.reading.rugxeni_accounts.Tie as tie
+use Rattle.rugxeni.proofs.accounts.rugxeni_accounts.Statement.{statement}
+use Rattle.rugxeni.proofs.accounts.rugxeni_accounts.Tie as tie
 
 returns : tie.Need-returns
 returns c = read-short (c .before .before .before .before .if1 .taken) (c .before .before .say-short .ensures)
