@@ -9,9 +9,9 @@ use Rattle.plain.specs.Edges.{whole}
 use Rattle.plain.specs.Plain.{ledger}
 use Rattle.plain.specs.Report.{reportOf}
 
-abbrev pub both : ℕ → ℕ → Account
-both f h = record { free = f; held = h }
+abbrev pub account : ℕ → ℕ → Account
+account f h = record { free = f; held = h }
 
 -- "account 0 6 0", "account 1 6 0", "account 2 3 0"
 abbrev pub Worked : Type 0
-Worked = recordsOf (reportOf (whole .sheet) (ledger (whole .sheet) (whole .offers))) ≡ both 6 0 ∷ both 6 0 ∷ both 3 0 ∷ []
+Worked = recordsOf (reportOf (whole .sheet) (ledger (whole .sheet) (whole .offers))) ≡ account 6 0 ∷ account 6 0 ∷ account 3 0 ∷ []

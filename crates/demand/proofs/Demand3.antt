@@ -19,9 +19,9 @@ use Rattle.escrow.specs.Outcome.{Citation, InLogs, outcome}
 use Rattle.escrow.specs.Report.{statusAll}
 use Rattle.plain.proofs.Follow.{follows-fresh}
 use Rattle.plain.proofs.Kept.{proper}
-use Rattle.plain.proofs.Lists.{starts-extends}
-use Rattle.plain.proofs.Slips.{one-offer}
-use Rattle.plain.specs.Logs.{Logs, Starts, emptyLogs, historyOf}
+use Rattle.plain.proofs.Lists.{begins-extends}
+use Rattle.plain.proofs.FrameOffers.{one-offer}
+use Rattle.plain.specs.Logs.{Logs, EachBegins, emptyLogs, historyOf}
 use Rattle.plain.specs.Plain.{ledger, next}
 use Rattle.plain.specs.Report.{Report, reportBy, reportOf}
 use Rattle.readings.specs.Reading.{reportIn}
@@ -121,24 +121,24 @@ module _ (S : Sheet) (es : List Event) (l : Ledger) (K : Kept) (U : InUse S es l
   }
 
 module _ (S : Sheet) (es es' : List Event) (l l' : Ledger) (K K' : Kept) (U : InUse S es l K) (U' : InUse S es' l' K') where
-  module _ (h : Starts S (logsOf S es) (logsOf S es')) where
+  module _ (h : EachBegins S (logsOf S es) (logsOf S es')) where
     grown-outcomes : (c : Citation) → InLogs S (historyOf (logsOf S es)) c → outcomesIn (cellsOf l K) c ≡ outcomesIn (cellsOf l' K') c
     grown-outcomes c w =
-        let E = starts-extends S _ _ h in
+        let E = begins-extends S _ _ h in
         recorded S es l K U c w
         ∙ sym (outcome-grown S (Q S es l K U .some) _ _ (logs-proper S es l K U) (logs-proper S es' l' K' U') E c w)
         ∙ sym (recorded S es' l' K' U' c (w .0, omega (arith, w .1, E .longer (c .instance) (w .0))))
 
     grown-log : Begins (reportIn l K .log) (reportIn l' K' .log)
     grown-log = rw (log-is S es l K U, log-is S es' l' K' U')
-        (log-grown S (Q S es l K U .some) _ _ (logs-proper S es l K U) (logs-proper S es' l' K' U') (starts-extends S _ _ h))
+        (log-grown S (Q S es l K U .some) _ _ (logs-proper S es l K U) (logs-proper S es' l' K' U') (begins-extends S _ _ h))
 
     grown-settled : (x : ℕ) → settlementIn (reportIn l K) x ≢ pending → settlementIn (reportIn l' K') x ≡ settlementIn (reportIn l K) x
     grown-settled x n = elim (decLt x (txCount S)) [
       | yes u ↦
           let e = settlement-is S es l K U x u in
           settlement-is S es' l' K' U' x u
-          ∙ status-grown S (Q S es l K U .some) _ _ (logs-proper S es l K U) (logs-proper S es' l' K' U') (starts-extends S _ _ h) x (λ z. n (e ∙ z)) ∙ sym e
+          ∙ status-grown S (Q S es l K U .some) _ _ (logs-proper S es l K U) (logs-proper S es' l' K' U') (begins-extends S _ _ h) x (λ z. n (e ∙ z)) ∙ sym e
       | no u ↦ absurd (n (settlement-past S es l K U x u))
     ]
 

@@ -11,7 +11,7 @@ use Rattle.escrow.specs.Amounts.{credited, reserved}
 use Rattle.escrow.specs.Outcome.{Citation, InLogs, fullView, judge, outcome}
 use Rattle.escrow.specs.Report.{rowsAll, statusAll}
 use Rattle.plain.specs.Answer.{Answer}
-use Rattle.plain.specs.Logs.{Logs, Starts, Values, emptyLogs, historyOf}
+use Rattle.plain.specs.Logs.{Logs, EachBegins, Values, emptyLogs, historyOf}
 use Rattle.plain.specs.Offers.{Offer, block, frame, parse, values}
 use Rattle.plain.specs.Plain.{answer, ledger, next}
 use Rattle.plain.specs.Report.{Report, Tells, reportOf}
@@ -68,10 +68,10 @@ pub record Agree (S : Sheet) (l : Ledger) (K : Kept) (L : Logs) (l' : Ledger) (K
   -- 3: the same logs, the same readings
   pub report : L ≡ L' → reportIn l K ≡ reportIn l' K'
   -- 3, 4: the same part outcomes
-  pub outcomes : Starts S L L' → (c : Citation) → InLogs S (historyOf L) c → outcomesIn (cellsOf l K) c ≡ outcomesIn (cellsOf l' K') c
+  pub outcomes : EachBegins S L L' → (c : Citation) → InLogs S (historyOf L) c → outcomesIn (cellsOf l K) c ≡ outcomesIn (cellsOf l' K') c
   -- 4: each log a beginning of the other's: so is the global log, and what is paid or returned stays so
-  pub log : Starts S L L' → Begins (reportIn l K .log) (reportIn l' K' .log)
-  pub settled : Starts S L L' → (x : ℕ) → settlementIn (reportIn l K) x ≢ pending → settlementIn (reportIn l' K') x ≡ settlementIn (reportIn l K) x
+  pub log : EachBegins S L L' → Begins (reportIn l K .log) (reportIn l' K' .log)
+  pub settled : EachBegins S L L' → (x : ℕ) → settlementIn (reportIn l K) x ≢ pending → settlementIn (reportIn l' K') x ≡ settlementIn (reportIn l K) x
 
 -- of every ledger in use, and of every two on one sheet
 pub record Demand : Type 0 where

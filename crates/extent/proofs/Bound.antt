@@ -20,7 +20,7 @@ use Rattle.frames.proofs.FrameLaws.{frame-is}
 use Rattle.frames.specs.Frame.{bodyAt, bodyOf, frameAt}
 use Rattle.frames.specs.declared.frame.Framed.{Framed}
 use Rattle.plain.proofs.AnswerLaws.{refuse-pass}
-use Rattle.plain.proofs.Slips.{parsed}
+use Rattle.plain.proofs.FrameOffers.{parsed}
 use Rattle.plain.specs.Answer.{Answer, _then_, accepted, firstTo, noOffer, refuse, refused}
 use Rattle.plain.specs.Logs.{Logs, Values, emptyLogs, historyOf}
 use Rattle.plain.specs.Offers.{Parsed, blockOf, offered, parse, wrong}

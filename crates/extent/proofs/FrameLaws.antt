@@ -16,7 +16,7 @@ use Rattle.frames.specs.Step.{afterCheck, afterFrame, judged, loadingAfter, ste
 use Rattle.frames.specs.declared.frame.Framed.{Framed}
 use Rattle.frames.specs.declared.step.Loading.{Loading}
 use Rattle.frames.specs.declared.step.Step.{Step}
-use Rattle.plain.proofs.Slips.{parsed}
+use Rattle.plain.proofs.FrameOffers.{parsed}
 use Rattle.plain.specs.Logs.{Values}
 use Rattle.plain.specs.Offers.{Parsed, blockOf, parse, parsedBody, parsedFrame, wrong}
 use Rattle.plain.specs.Offers as offers

@@ -17,8 +17,8 @@ use Rattle.plain.specs.Answer.{_then_, accepted, firstTo, refuse, refuse
 use Rattle.plain.specs.Early.{earlyAnswer, earlyFront}
 use Rattle.plain.specs.Edges.{blk, offersOf, wholeBlocks, wholeSheet}
 use Rattle.plain.specs.EdgesFull.{citing, lastLogs, lastReport, lastSheet, manyPay, tall}
-use Rattle.plain.specs.EdgesFurther.{wholeShort, wholeSlips}
-use Rattle.plain.specs.EdgesRefusals.{Gives, GivesCall, GivesEarly, calls, citations, earlyTurned, entries, fronts, lends, logsBefore, offersIn, slipsNear, slipsTurned, slipsWide, takes, threePay, turned}
+use Rattle.plain.specs.EdgesFurther.{wholeShort, wholeFrames}
+use Rattle.plain.specs.EdgesRefusals.{Gives, GivesCall, GivesEarly, calls, citations, earlyTurned, entries, fronts, lends, logsBefore, offersIn, framesNear, framesTurned, framesWide, takes, threePay, turned}
 use Rattle.plain.specs.Logs.{Values, appended, blockFrom, historyOf}
 use Rattle.plain.specs.Offers.{offerNeeds, parse, values}
 use Rattle.plain.specs.Plain.{valuesAnswer, answer, blockAnswer, citeAnswer, citedBefore, entryOff, frontAnswer, idleAnswer, lastEntry, lastRank, ledger, lentAnswer, next, unusedSet}
@@ -74,22 +74,22 @@ nothing-changed = refl
 
 -- ---- slips
 
-pub slips-refused : All Gives slipsTurned
+pub asFrames-refused : All Gives framesTurned
 unfolding tabulate pick le checkBlock citesOf cutOf frameAt parse anyTo home hasPart _then_ refuse firstTo appended historyOf offerNeeds lentAnswer unusedSet frontAnswer valuesAnswer lastRank lastEntry entryOff citedBefore citeAnswer blockAnswer idleAnswer answer next ledger
-slips-refused = refl & refl & refl & refl & refl & refl & refl & refl & refl & refl & refl & tt
+asFrames-refused = refl & refl & refl & refl & refl & refl & refl & refl & refl & refl & refl & tt
 
-pub slips-near : All Gives slipsNear
+pub asFrames-near : All Gives framesNear
 unfolding tabulate pick le checkBlock citesOf cutOf frameAt parse anyTo home hasPart _then_ refuse firstTo appended historyOf offerNeeds lentAnswer unusedSet frontAnswer valuesAnswer lastRank lastEntry entryOff citedBefore citeAnswer blockAnswer idleAnswer answer next ledger
-slips-near = refl & refl & refl & refl & refl & refl & refl & refl & refl & refl & refl & refl & refl & refl & refl & tt
+asFrames-near = refl & refl & refl & refl & refl & refl & refl & refl & refl & refl & refl & refl & refl & refl & refl & tt
 
-pub slips-wide : All Gives slipsWide
+pub asFrames-wide : All Gives framesWide
 unfolding tabulate pick le checkBlock citesOf cutOf frameAt parse anyTo home hasPart _then_ refuse firstTo appended historyOf offerNeeds lentAnswer unusedSet frontAnswer valuesAnswer lastRank lastEntry entryOff citedBefore citeAnswer blockAnswer idleAnswer answer next ledger
-slips-wide = refl & refl & refl & refl & refl & tt
+asFrames-wide = refl & refl & refl & refl & refl & tt
 
 -- a slip and the same values give equal logs
-pub slips-same : ledger wholeSheet wholeSlips ≡ ledger wholeSheet (offersOf wholeSheet wholeBlocks)
+pub asFrames-same : ledger wholeSheet wholeFrames ≡ ledger wholeSheet (offersOf wholeSheet wholeBlocks)
 unfolding tabulate pick le checkBlock citesOf cutOf frameAt parse anyTo home hasPart _then_ refuse firstTo appended historyOf offerNeeds lentAnswer unusedSet frontAnswer valuesAnswer lastRank lastEntry entryOff citedBefore citeAnswer blockAnswer idleAnswer answer next ledger
-slips-same = refl
+asFrames-same = refl
 
 pub cuts-same : ledger wholeSheet (offersOf wholeSheet wholeShort) ≡ ledger wholeSheet (offersOf wholeSheet wholeBlocks)
 unfolding tabulate pick anyTo home hasPart _then_ refuse firstTo appended historyOf offerNeeds lentAnswer unusedSet frontAnswer valuesAnswer lastRank lastEntry entryOff citedBefore citeAnswer blockAnswer idleAnswer answer next ledger

@@ -11,4 +11,4 @@ pub mod Witness
 pub mod Reading
 pub mod Edges
 pub mod EdgesRefusals
-pub mod Slips
+pub mod FrameOffers

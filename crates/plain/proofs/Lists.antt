@@ -11,7 +11,7 @@ use native.Mathlib.Omega.{arith}
 use Rattle.escrow.proofs.Growth.{Extends}
 use Rattle.sums.proofs.SeqLaws.{getD-tabulate}
 use Rattle.sums.specs.Seq.{Begins}
-use Rattle.plain.specs.Logs.{Starts, Block, Logs, Values, appended, blockAt, blockFrom, historyOf, noBlock}
+use Rattle.plain.specs.Logs.{EachBegins, Block, Logs, Values, appended, blockAt, blockFrom, historyOf, noBlock}
 use Rattle.plain.proofs.Engine.{Grown}
 use Rattle.sheets.specs.Sheet.{Sheet}
 use Rattle.settlement.specs.View.{noCite}
@@ -55,9 +55,9 @@ module _ (L : Logs) (b : Values) (h : b .instance < length L) where
 
 -- ---- beginnings
 
-pub starts-extends : (S : Sheet) (L L' : Logs) → Starts S L L' → Extends S (historyOf L) (historyOf L')
+pub begins-extends : (S : Sheet) (L L' : Logs) → EachBegins S L L' → Extends S (historyOf L) (historyOf L')
 unfolding historyOf
-starts-extends S L L' h = record {
+begins-extends S L L' h = record {
   longer = λ j l. longer j (h j l);
   ranks = λ j n l u. ap (λ (k : Block). k .rank) (same j n u (h j l));
   entries = λ j n e l u k. ap (λ (k : Block). getD (k .cut) e 0) (same j n u (h j l));

@@ -177,11 +177,11 @@ wholeBytes =
     18 ∷ 0 ∷ 0 ∷ 0 ∷ 4 ∷ 0 ∷ 1 ∷ 0 ∷ 1 ∷ 0 ∷ 1 ∷ 0 ∷ 0 ∷ 0 ∷ 1 ∷ 0 ∷ 0 ∷ 0 ∷ 0 ∷ 0 ∷ 0 ∷ 0
     ∷ 20 ∷ 0 ∷ 0 ∷ 0 ∷ 4 ∷ 0 ∷ 0 ∷ 0 ∷ 1 ∷ 0 ∷ 2 ∷ 0 ∷ 0 ∷ 0 ∷ 2 ∷ 0 ∷ 0 ∷ 0 ∷ 1 ∷ 0 ∷ 0 ∷ 0 ∷ 1 ∷ 0 ∷ []
 
-abbrev pub wholeSlips : List Offer
-wholeSlips = frame (offerNeeds wholeSheet) wholeBytes 0 ∷ frame (offerNeeds wholeSheet) wholeBytes 22 ∷ []
+abbrev pub wholeFrames : List Offer
+wholeFrames = frame (offerNeeds wholeSheet) wholeBytes 0 ∷ frame (offerNeeds wholeSheet) wholeBytes 22 ∷ []
 
-abbrev pub slips : Row
-slips = record { sheet = wholeSheet; offers = wholeSlips; answers = yes 2; bar = keyOf 2 1; report = wholeReport }
+abbrev pub asFrames : Row
+asFrames = record { sheet = wholeSheet; offers = wholeFrames; answers = yes 2; bar = keyOf 2 1; report = wholeReport }
 
 -- the same blocks as values whose cut stops at the sheet's instances: a cut is sixteen counts whatever it is read from
 abbrev pub wholeShort : List Values
@@ -193,7 +193,7 @@ further =
     ∷ unfinished ∷ firstView ∷ twoSeen ∷ spentOnce ∷ heldBack ∷ freed ∷ notClosed
     ∷ chain 5 paid (0 ∷ 5 ∷ 0 ∷ [])
     ∷ chain 4 returned (4 ∷ 0 ∷ 0 ∷ [])
-    ∷ sixteen ∷ byRank ∷ missing ∷ givenBack ∷ onePart ∷ selfPaid ∷ runsLast ∷ logOrder ∷ secondBlock ∷ tests ∷ sees ∷ undone ∷ resent ∷ slips ∷ []
+    ∷ sixteen ∷ byRank ∷ missing ∷ givenBack ∷ onePart ∷ selfPaid ∷ runsLast ∷ logOrder ∷ secondBlock ∷ tests ∷ sees ∷ undone ∷ resent ∷ asFrames ∷ []
 
 abbrev pub table : List Row
 table = marked ++ further

@@ -1,4 +1,4 @@
--- An offer for each refusal of document 01's table, in the order of the rules; an offer of the lists `turned`, `slipsTurned` and `earlyTurned` meets the later refusals of its list too, as far as one that meets its own can.
+-- An offer for each refusal of document 01's table, in the order of the rules; an offer of the lists `turned`, `framesTurned` and `earlyTurned` meets the later refusals of its list too, as far as one that meets its own can.
 -- Then offers that meet a refusal by just one, or would give another place. proofs/EdgesRefusals shows the answers.
 -- Assumes nothing.
 use Prim.Native.Nat.{_%_, _+_, _/_, ℕ}
@@ -159,8 +159,8 @@ twos [] = []
 twos (x ∷ l) = two x ++ twos l
 
 -- kind, body
-abbrev pub slip : ℕ → List ℕ → List ℕ
-slip k b = four (length b + 2) ++ two k ++ b
+abbrev pub frameWith : ℕ → List ℕ → List ℕ
+frameWith k b = four (length b + 2) ++ two k ++ b
 
 -- instance, sequence number, rank, count, cut, citations
 abbrev pub body : ℕ → ℕ → ℕ → ℕ → List ℕ → List ℕ → List ℕ
@@ -171,47 +171,47 @@ abbrev pub at5 : List ℕ → Offer
 at5 bytes = frame room (255 ∷ 255 ∷ 255 ∷ 255 ∷ 255 ∷ bytes) 5
 
 -- no byte left, 16, 1 (length field), 2, 1 (body), 3, 4, 5, 8, 9, and taken though more bytes follow
-abbrev pub slipsTurned : List Case
-slipsTurned =
+abbrev pub framesTurned : List Case
+framesTurned =
     frame [] (255 ∷ 255 ∷ 255 ∷ 255 ∷ 255 ∷ []) 5 gives noOffer
     ∷ frame [] (255 ∷ 255 ∷ 255 ∷ 255 ∷ 255 ∷ 1 ∷ []) 5 gives refused 16 324
     ∷ at5 (1 ∷ 0 ∷ 0 ∷ []) gives refused 1 5
     ∷ at5 (1 ∷ 0 ∷ 0 ∷ 0 ∷ []) gives refused 2 5
     ∷ at5 (four 3 ++ two 9) gives refused 1 5
-    ∷ at5 (slip 9 (body 3 9 0 33 (9 ∷ []) [])) gives refused 3 5
-    ∷ at5 (slip 4 (body 3 9 0 33 (9 ∷ 9 ∷ 9 ∷ []) (replicate 32 7))) gives refused 4 5
-    ∷ at5 (slip 4 (body 3 9 0 33 (9 ∷ 9 ∷ 9 ∷ []) (replicate 33 7))) gives refused 5 5
-    ∷ at5 (slip 4 (body 3 9 0 3 (9 ∷ 9 ∷ 9 ∷ []) wrongs)) gives refused 8 0
-    ∷ at5 (slip 4 (body 0 9 0 3 (9 ∷ 9 ∷ 9 ∷ []) wrongs)) gives refused 9 3
-    ∷ at5 (slip 4 (body 1 2 4 1 (2 ∷ 1 ∷ 0 ∷ []) (1 ∷ [])) ++ 255 ∷ []) gives accepted ∷ []
+    ∷ at5 (frameWith 9 (body 3 9 0 33 (9 ∷ []) [])) gives refused 3 5
+    ∷ at5 (frameWith 4 (body 3 9 0 33 (9 ∷ 9 ∷ 9 ∷ []) (replicate 32 7))) gives refused 4 5
+    ∷ at5 (frameWith 4 (body 3 9 0 33 (9 ∷ 9 ∷ 9 ∷ []) (replicate 33 7))) gives refused 5 5
+    ∷ at5 (frameWith 4 (body 3 9 0 3 (9 ∷ 9 ∷ 9 ∷ []) wrongs)) gives refused 8 0
+    ∷ at5 (frameWith 4 (body 0 9 0 3 (9 ∷ 9 ∷ 9 ∷ []) wrongs)) gives refused 9 3
+    ∷ at5 (frameWith 4 (body 1 2 4 1 (2 ∷ 1 ∷ 0 ∷ []) (1 ∷ [])) ++ 255 ∷ []) gives accepted ∷ []
 
 -- 1: one byte left; a body one byte short. 2: L 1 and 8,195, not 2 and 8,194. 3: the kinds of the sheet, and the high byte of the kind. 4: no counts, a body one byte short by its counts, one too long
-abbrev pub slipsNear : List Case
-slipsNear =
+abbrev pub framesNear : List Case
+framesNear =
     at5 (2 ∷ []) gives refused 1 5
     ∷ at5 (four 8194) gives refused 1 5
     ∷ at5 (four 8195) gives refused 2 5
     ∷ at5 (four 65538 ++ two 4) gives refused 2 5
     ∷ at5 (four 19 ++ two 4 ++ body 1 2 4 0 (2 ∷ 1 ∷ 0 ∷ []) []) gives refused 1 5
-    ∷ at5 (slip 0 []) gives refused 3 5
-    ∷ at5 (slip 1 (twos (3 ∷ 3 ∷ 0 ∷ 3 ∷ []))) gives refused 3 5
-    ∷ at5 (slip 2 (replicate 24 0)) gives refused 3 5
-    ∷ at5 (slip 3 (body 1 2 4 0 (2 ∷ 1 ∷ 0 ∷ []) [])) gives refused 3 5
-    ∷ at5 (slip 260 (body 1 2 4 0 (2 ∷ 1 ∷ 0 ∷ []) [])) gives refused 3 5
-    ∷ at5 (slip 4 []) gives refused 4 5
-    ∷ at5 (slip 4 (replicate 9 0)) gives refused 4 5
-    ∷ at5 (slip 4 (body 1 2 4 1 (2 ∷ 1 ∷ 0 ∷ []) (1 ∷ []) ++ 0 ∷ [])) gives refused 4 5
-    ∷ at5 (slip 4 (body 1 2 4 1 (2 ∷ 1 ∷ []) (1 ∷ []))) gives refused 4 5
-    ∷ at5 (slip 4 (body 1 2 4 0 (2 ∷ 1 ∷ 0 ∷ []) [])) gives accepted ∷ []
+    ∷ at5 (frameWith 0 []) gives refused 3 5
+    ∷ at5 (frameWith 1 (twos (3 ∷ 3 ∷ 0 ∷ 3 ∷ []))) gives refused 3 5
+    ∷ at5 (frameWith 2 (replicate 24 0)) gives refused 3 5
+    ∷ at5 (frameWith 3 (body 1 2 4 0 (2 ∷ 1 ∷ 0 ∷ []) [])) gives refused 3 5
+    ∷ at5 (frameWith 260 (body 1 2 4 0 (2 ∷ 1 ∷ 0 ∷ []) [])) gives refused 3 5
+    ∷ at5 (frameWith 4 []) gives refused 4 5
+    ∷ at5 (frameWith 4 (replicate 9 0)) gives refused 4 5
+    ∷ at5 (frameWith 4 (body 1 2 4 1 (2 ∷ 1 ∷ 0 ∷ []) (1 ∷ []) ++ 0 ∷ [])) gives refused 4 5
+    ∷ at5 (frameWith 4 (body 1 2 4 1 (2 ∷ 1 ∷ []) (1 ∷ []))) gives refused 4 5
+    ∷ at5 (frameWith 4 (body 1 2 4 0 (2 ∷ 1 ∷ 0 ∷ []) [])) gives accepted ∷ []
 
 -- every number in all its bytes: instance, sequence number, rank, cut entry, citation
-abbrev pub slipsWide : List Case
-slipsWide =
-    at5 (slip 4 (body 257 2 4 0 (2 ∷ 1 ∷ 0 ∷ []) [])) gives refused 8 0
-    ∷ at5 (slip 4 (body 1 258 4 0 (2 ∷ 1 ∷ 0 ∷ []) [])) gives refused 9 2
-    ∷ at5 (slip 4 (body 1 2 65536 0 (2 ∷ 1 ∷ 0 ∷ []) [])) gives accepted
-    ∷ at5 (slip 4 (body 1 2 4 0 (258 ∷ 1 ∷ 0 ∷ []) [])) gives refused 12 0
-    ∷ at5 (slip 4 (body 1 2 4 1 (2 ∷ 1 ∷ 0 ∷ []) (257 ∷ []))) gives refused 13 0 ∷ []
+abbrev pub framesWide : List Case
+framesWide =
+    at5 (frameWith 4 (body 257 2 4 0 (2 ∷ 1 ∷ 0 ∷ []) [])) gives refused 8 0
+    ∷ at5 (frameWith 4 (body 1 258 4 0 (2 ∷ 1 ∷ 0 ∷ []) [])) gives refused 9 2
+    ∷ at5 (frameWith 4 (body 1 2 65536 0 (2 ∷ 1 ∷ 0 ∷ []) [])) gives accepted
+    ∷ at5 (frameWith 4 (body 1 2 4 0 (258 ∷ 1 ∷ 0 ∷ []) [])) gives refused 12 0
+    ∷ at5 (frameWith 4 (body 1 2 4 1 (2 ∷ 1 ∷ 0 ∷ []) (257 ∷ []))) gives refused 13 0 ∷ []
 
 -- ---- before the sheet is complete: 16, then 3 with place 0 for values; for a slip 16, 1, 2, 1, then 3 at its offset, whatever its kind
 abbrev pub earlyTurned : List Case
@@ -224,8 +224,8 @@ earlyTurned =
     ∷ at5 (1 ∷ 0 ∷ 0 ∷ 0 ∷ []) gives refused 2 5
     ∷ at5 (four 8195) gives refused 2 5
     ∷ at5 (four 3 ++ two 9) gives refused 1 5
-    ∷ at5 (slip 4 (body 3 9 0 33 (9 ∷ []) [])) gives refused 3 5
-    ∷ at5 (slip 1 (twos (3 ∷ 3 ∷ 0 ∷ 3 ∷ []))) gives refused 3 5 ∷ []
+    ∷ at5 (frameWith 4 (body 3 9 0 33 (9 ∷ []) [])) gives refused 3 5
+    ∷ at5 (frameWith 1 (twos (3 ∷ 3 ∷ 0 ∷ 3 ∷ []))) gives refused 3 5 ∷ []
 
 -- ---- calls for readings, of the run "One reading, whole": 3 with place 0 ahead of 16 before the sheet is complete; then 16, the working buffers before those that are filled
 

@@ -52,5 +52,5 @@ unfoldable pub appended : Logs → ℕ → Block → Logs
 appended L i b = set L i (getD L i [] ++ b ∷ [])
 
 -- each instance log of the first is a beginning of the second's: "A beginning may be none or all of a list"
-abbrev pub Starts : Sheet → Logs → Logs → Type 0
-Starts S L L' = (j : ℕ) → j < S .m → Begins (getD L j []) (getD L' j [])
+abbrev pub EachBegins : Sheet → Logs → Logs → Type 0
+EachBegins S L L' = (j : ℕ) → j < S .m → Begins (getD L j []) (getD L' j [])

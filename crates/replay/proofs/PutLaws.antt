@@ -20,7 +20,7 @@ use Rattle.fields.specs.Number.{le}
 use Rattle.offers.specs.Offering.{Offers, answerFrom, replyOf}
 use Rattle.offers.specs.declared.answer.Offered.{Offered}
 use Rattle.plain.proofs.AnswerLaws.{then-pass}
-use Rattle.plain.proofs.Slips.{parsed}
+use Rattle.plain.proofs.FrameOffers.{parsed}
 use Rattle.plain.specs.Answer.{Answer, _then_, accepted, noOffer, refused}
 use Rattle.plain.specs.Logs.{Logs, Values, historyOf}
 use Rattle.plain.specs.Offers.{Parsed, blockOf, frame, offerNeeds, parse, parsedFrame, valuesIn, wrong}

@@ -20,11 +20,11 @@ use Rattle.sums.specs.Seq.{fill, tabulate}
 use Rattle.sums.specs.Test.{pick}
 
 -- the first sixteen entries of a lent cut, 0 where there are fewer
-unfoldable pub cutIn : List ℕ → List ℕ
-cutIn cut = tabulate 16 (λ e. getD cut e 0)
+unfoldable pub cutWith : List ℕ → List ℕ
+cutWith cut = tabulate 16 (λ e. getD cut e 0)
 
 abbrev pub blockWith : ℕ → ℕ → ℕ → List ℕ → Block
-blockWith instance sequence rank cut = record { instance = instance; sequence = record { 0 = sequence }; rank = record { 0 = rank }; cut = cutIn cut }
+blockWith instance sequence rank cut = record { instance = instance; sequence = record { 0 = sequence }; rank = record { 0 = rank }; cut = cutWith cut }
 
 -- only a frame that is taken changes the numbers
 pub record LoadCall (numbers run : List ℕ) (at : ℕ) (sheet told : List ℕ) (code : ℕ) (numbers' sheet' told' : List ℕ) : Type 0 where

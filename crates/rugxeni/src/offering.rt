@@ -12,14 +12,14 @@ use ordering::Rank;
 use ordering::SequenceNumber;
 ghost use Rattle.admission.specs.Citing.{valuesWith};
 ghost use Rattle.plain.specs.Offers as offered;
-ghost use Rattle.rugxeni.specs.Boundary.{OfferCall, blockWith, cutIn};
+ghost use Rattle.rugxeni.specs.Boundary.{OfferCall, blockWith, cutWith};
 ghost use Rattle.settlement.specs.Tables.{buffers};
 ghost use Rattle.state.specs.State.{kept, lengthsOf};
 ghost use mathlib.Core.Path.{_≡_};
 
 // The first sixteen entries; 0 where there are fewer.
 fn cut_of(cut: &[u16]) -> [u16; 16]
-    ensures { λ r. ⌜ r ≡ cutIn (now (cut .entry)) ⌝ }
+    ensures { λ r. ⌜ r ≡ cutWith (now (cut .entry)) ⌝ }
 {
     let mut whole = [0u16; 16];
     for e in 0..16usize {

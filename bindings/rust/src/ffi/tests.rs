@@ -490,6 +490,30 @@ fn refused_offers_write_nothing() {
     }
 }
 
+/// A stage is one byte, so that 300 is no ledger's: only what is taken writes the numbers.
+#[test]
+fn numbers_stay_where_nothing_is_taken() {
+    let run = worked_run();
+    let mut lent = Lent::worked(0);
+    lent.numbers[4] = 300;
+    let mut expected = lent.clone();
+    expected.told = vec![2, 0];
+    assert_eq!(lent.offer_block((0, 3, 9), &[1, 1], &[]), 9);
+    assert_eq!(lent, expected);
+    assert_eq!(lent.offer_frame(&run, 100), 9);
+    assert_eq!(lent, expected);
+    expected.told = vec![0, 0];
+    assert_eq!(lent.offer_frame(&run, run.len()), 255);
+    assert_eq!(lent, expected);
+    assert_eq!(lent.load(&run, 0), 255);
+    assert_eq!(lent, expected);
+    // A transaction is due again.
+    lent.numbers[5] = 1;
+    expected.numbers[5] = 1;
+    assert_eq!(lent.load(&[], 0), 1);
+    assert_eq!(lent, expected);
+}
+
 #[test]
 fn a_cut_is_taken_by_its_first_sixteen_entries() {
     // Fewer count as 0, more are not looked at.

@@ -5,7 +5,7 @@ use native.Mathlib.Omega.{arith}
 use lib.ListN.{length, getD, take, length-set}
 use Rattle.sums.proofs.LoopLaws.{filling-done, filling-more}
 use Rattle.sums.specs.Seq.{tabulate}
-use Rattle.rugxeni.specs.Boundary.{cutIn}
+use Rattle.rugxeni.specs.Boundary.{cutWith}
 use Rattle.rugxeni.proofs.offering.cut_of.Statement.{statement}
 use Rattle.rugxeni.proofs.offering.cut_of.Tie as tie
 
@@ -32,7 +32,7 @@ loop-again : tie.Need-loop-again Inv-loop μ-loop
 loop-again c = (omega arith, length-set (c .before .before .loop .whole) (c .before .before .loop .e) (c .number-at .result) ∙ c .before .before .loop .inv .1, filling-more (c .before .before .loop .whole) (c .before .before .loop .e) (c .number-at .result) _ (omega arith) (c .before .before .loop .inv .2) (c .number-at .ensures))
 
 returns : tie.Need-returns Inv-loop μ-loop
-unfolding cutIn
+unfolding cutWith
 returns c = filling-done (c .before .loop .whole) 16 (c .before .loop .e) _ (c .before .loop .inv .1) (omega arith) (omega arith) (c .before .loop .inv .2)
 
 pub cut-of-spec : {M : Type 1} → statement M
