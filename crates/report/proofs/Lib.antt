@@ -1,3 +1,4 @@
 -- The report, step by step.
 pub mod TextLaws
+pub mod FrontLaws
 pub mod RoomLaws

@@ -21,7 +21,7 @@ use Rattle.refusals.specs.declared.Checked.{Checked}
 use Rattle.refusals.specs.declared.Refusal.{Refusal}
 use Rattle.replay.specs.Inner.{Ample}
 use Rattle.replay.specs.Reading.{readingText}
-use Rattle.report.specs.Reports.{Reports, reportNeeds}
+use Rattle.report.specs.Reports.{Reports, Spared, reportNeeds}
 use Rattle.settlement.specs.Tables.{Buffers}
 use Rattle.state.specs.State.{Kept, lengthsOf}
 use Rattle.text.specs.Wrote.{Wrote}
@@ -67,12 +67,12 @@ stored-whole text out out' n h w =
 module _ (run : List ℕ) (K : Kept) (W : Buffers) (out : List ℕ) where
   pub reports-refused : (c : Checked) (x : Refusal) → c ≡ Checked.Refused x → replyTo c ≡ lentAnswer reportNeeds (lengthsOf K W ++ (length out ∷ []))
       → Reports run K W out (refused (refusalNumber x) (refusalPlace x)) 0 K W out
-  reports-refused c x h e = record { answered = ap replyTo (sym h) ∙ e; inside = omega arith; text = λ t. absurd (let z : _≡_ {A = ℕ} 0 1 = cc in omega arith); quiet = λ f. (refl, refl, refl, refl) }
+  reports-refused c x h e = record { answered = ap replyTo (sym h) ∙ e; inside = omega arith; text = λ t. absurd (let z : _≡_ {A = ℕ} 0 1 = cc in omega arith); spared = λ t. absurd (let z : _≡_ {A = ℕ} 0 1 = cc in omega arith); quiet = λ f. (refl, refl, refl, refl) }
 
   pub reports-text : (n : ℕ) (K' : Kept) (W' : Buffers) (out' : List ℕ) → ((k : ℕ) → Fits w8 (getD run k 0)) → accepted ≡ lentAnswer reportNeeds (lengthsOf K W ++ (length out ∷ []))
-      → Wrote out 0 (readingText run) out' n → Reports run K W out accepted n K' W' out'
-  reports-text n K' W' out' bytes e w =
+      → Wrote out 0 (readingText run) out' n → Spared K W K' W' → Reports run K W out accepted n K' W' out'
+  reports-text n K' W' out' bytes e w rest =
       let short = text-fits run (λ k. omega (arith, bytes k)) in
       let long = room-ample K W (length out) e .1 in
       let whole = stored-whole (readingText run) out out' n (omega arith) w in
-      record { answered = e; inside = omega (arith, whole .0); text = λ t. whole; quiet = λ f. absurd (let z : _≡_ {A = ℕ} 0 1 = cc in omega arith) }
+      record { answered = e; inside = omega (arith, whole .0); text = λ t. whole; spared = λ t. rest; quiet = λ f. absurd (let z : _≡_ {A = ℕ} 0 1 = cc in omega arith) }

@@ -1,5 +1,5 @@
 // The call for the reading of a run as text.
-use crate::whole::put_reading;
+use crate::whole::put_within;
 use refusals::Checked;
 use refusals::Refusal;
 use state::lengths::Lengths;
@@ -85,7 +85,7 @@ pub fn report_run(
         },
         Checked::Fine => Reported {
             answer: Checked::Fine,
-            length: put_reading(
+            length: put_within(
                 run,
                 sheet,
                 ranks,

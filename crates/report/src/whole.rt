@@ -14,6 +14,7 @@ ghost use mathlib.Core.Bool.{true};
 ghost use mathlib.Core.Path.{_≡_};
 ghost use Rattle.replay.specs.Inner.{Ample};
 ghost use Rattle.report.specs.Inner.{PutsOpened};
+ghost use Rattle.report.specs.Reports.{Spared};
 ghost use Rattle.replay.specs.Reading.{readingText};
 ghost use Rattle.settlement.specs.Tables.{buffers};
 ghost use Rattle.state.specs.State.{complete, kept};
@@ -79,7 +80,7 @@ fn put_opened(
 }
 
 // The whole text. Returns the place after it.
-pub fn put_reading(
+fn put_reading(
     run: &[u8],
     sheet: &mut [u8],
     ranks: &mut [u32],
@@ -116,4 +117,39 @@ pub fn put_reading(
             out,
         ),
     }
+}
+
+// The same with no more of each buffer than the largest sheet needs: the rest is not lent, so it stays.
+pub fn put_within(
+    run: &[u8],
+    sheet: &mut [u8],
+    ranks: &mut [u32],
+    cuts: &mut [u16],
+    cites: &mut [u16],
+    good: &mut [u8],
+    counts: &mut [u32],
+    table: &mut [u8],
+    order: &mut [u16],
+    out: &mut [u8],
+) -> usize
+    requires { ⌜ Ample (kept (now sheet) (now ranks) (now cuts) (now cites) (now good)) (buffers (now counts) (now table) (now order)) ⌝ }
+    ensures { λ r. ⌜ Wrote (now (out .entry)) 0 (readingText (now (run .entry))) (now (out .exit)) r
+        × Spared
+        (kept (now (sheet .entry)) (now (ranks .entry)) (now (cuts .entry)) (now (cites .entry)) (now (good .entry)))
+        (buffers (now (counts .entry)) (now (table .entry)) (now (order .entry)))
+        (kept (now (sheet .exit)) (now (ranks .exit)) (now (cuts .exit)) (now (cites .exit)) (now (good .exit)))
+        (buffers (now (counts .exit)) (now (table .exit)) (now (order .exit))) ⌝ }
+{
+    put_reading(
+        run,
+        &mut sheet[..110592],
+        &mut ranks[..2048],
+        &mut cuts[..32768],
+        &mut cites[..65536],
+        &mut good[..65536],
+        &mut counts[..2048],
+        &mut table[..1024],
+        &mut order[..2048],
+        out,
+    )
 }

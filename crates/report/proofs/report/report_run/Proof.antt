@@ -5,8 +5,8 @@ use Rattle.admission.specs.Replies.{replyTo}
 use Rattle.report.proofs.report.report_run.Statement.{statement}
 use Rattle.report.proofs.report.report_run.Tie as tie
 
-put-reading-requires : tie.Need-put-reading-requires
-put-reading-requires c κs = room-ample _ _ _ (ap replyTo (sym (c .before .before .before .before .before .before .before .before .before .enum-told .given .1)) ∙ c .before .before .before .before .before .before .before .before .before .before .before .check-room .ensures) .0
+put-within-requires : tie.Need-put-within-requires
+put-within-requires c κs = room-ample _ _ _ (ap replyTo (sym (c .before .before .before .before .before .before .before .before .before .enum-told .given .1)) ∙ c .before .before .before .before .before .before .before .before .before .before .before .check-room .ensures) .0
 
 returns : tie.Need-returns
 returns c = reports-refused _ _ _ _ _ _ (c .before .r .given .1) (c .before .before .before .check-room .ensures)
@@ -39,7 +39,7 @@ same-length-9 : tie.Need-same-length-9
 same-length-9 c = c .before .out .given
 
 returns-2 : tie.Need-returns-2
-returns-2 c = reports-text _ _ _ _ _ _ _ _ (c .before .before .before .before .before .before .before .before .before .before .before .before .before .before .before .before .before .before .before .before .before .before .before .before .before .before .before .before .before .before .before .before .before .before .before .before .before .before .before .before .shared-slice-known .given) (ap replyTo (sym (c .before .before .before .before .before .before .before .before .before .before .before .before .before .before .before .before .before .before .before .before .before .before .before .before .before .before .before .before .enum-told .given .1)) ∙ c .before .before .before .before .before .before .before .before .before .before .before .before .before .before .before .before .before .before .before .before .before .before .before .before .before .before .before .before .before .before .check-room .ensures) (c .before .before .before .before .before .before .before .before .before .before .before .before .before .before .before .before .before .before .put-reading .ensures)
+returns-2 c = reports-text _ _ _ _ _ _ _ _ (c .before .before .before .before .before .before .before .before .before .before .before .before .before .before .before .before .before .before .before .before .before .before .before .before .before .before .before .before .before .before .before .before .before .before .before .before .before .before .before .before .shared-slice-known .given) (ap replyTo (sym (c .before .before .before .before .before .before .before .before .before .before .before .before .before .before .before .before .before .before .before .before .before .before .before .before .before .before .before .before .enum-told .given .1)) ∙ c .before .before .before .before .before .before .before .before .before .before .before .before .before .before .before .before .before .before .before .before .before .before .before .before .before .before .before .before .before .before .check-room .ensures) (c .before .before .before .before .before .before .before .before .before .before .before .before .before .before .before .before .before .before .put-within .ensures .0) (c .before .before .before .before .before .before .before .before .before .before .before .before .before .before .before .before .before .before .put-within .ensures .1)
 
 pub report-run-spec : {M : Type 1} → statement M
 report-run-spec =
@@ -48,7 +48,7 @@ report-run-spec =
     (λ c κs. search needs)
     (λ c. search needs)
     (λ c. search needs)
-    put-reading-requires
+    put-within-requires
     returns
     same-length
     same-length-2
