@@ -14,7 +14,7 @@ GROUPS = [
     ("the text of a reading", [], ["report"]),
     ("the writers", [("encoding", "OneWriting", "EachKind")], ["frames_write", "transactions_write"]),
     ("the boundary of the static library", [], ["rugxeni"]),
-    ("the bounds on what is lent", [("extent", "Claim", "TextFits"), ("extent", "Buffers", "BuffersFit")], []),
+    ("the bounds on what is lent", [("extent", "Claim", "TextFits"), ("extent", "Buffers", "BuffersFit"), ("report", "Reports", "ReportFits")], []),
 ]
 WORD = re.compile(r"[^\s()\[\]{},;⌜⌝]+")
 MODIFIER = {"pub", "unfoldable", "abbrev", "record", "data", "instance", "infixl", "infixr", "infix"}

@@ -74,22 +74,22 @@ nothing-changed = refl
 
 -- ---- slips
 
-pub asFrames-refused : All Gives framesTurned
+pub frames-refused : All Gives framesTurned
 unfolding tabulate pick le checkBlock citesOf cutOf frameAt parse anyTo home hasPart _then_ refuse firstTo appended historyOf offerNeeds lentAnswer unusedSet frontAnswer valuesAnswer lastRank lastEntry entryOff citedBefore citeAnswer blockAnswer idleAnswer answer next ledger
-asFrames-refused = refl & refl & refl & refl & refl & refl & refl & refl & refl & refl & refl & tt
+frames-refused = refl & refl & refl & refl & refl & refl & refl & refl & refl & refl & refl & tt
 
-pub asFrames-near : All Gives framesNear
+pub frames-near : All Gives framesNear
 unfolding tabulate pick le checkBlock citesOf cutOf frameAt parse anyTo home hasPart _then_ refuse firstTo appended historyOf offerNeeds lentAnswer unusedSet frontAnswer valuesAnswer lastRank lastEntry entryOff citedBefore citeAnswer blockAnswer idleAnswer answer next ledger
-asFrames-near = refl & refl & refl & refl & refl & refl & refl & refl & refl & refl & refl & refl & refl & refl & refl & tt
+frames-near = refl & refl & refl & refl & refl & refl & refl & refl & refl & refl & refl & refl & refl & refl & refl & tt
 
-pub asFrames-wide : All Gives framesWide
+pub frames-wide : All Gives framesWide
 unfolding tabulate pick le checkBlock citesOf cutOf frameAt parse anyTo home hasPart _then_ refuse firstTo appended historyOf offerNeeds lentAnswer unusedSet frontAnswer valuesAnswer lastRank lastEntry entryOff citedBefore citeAnswer blockAnswer idleAnswer answer next ledger
-asFrames-wide = refl & refl & refl & refl & refl & tt
+frames-wide = refl & refl & refl & refl & refl & tt
 
 -- a slip and the same values give equal logs
-pub asFrames-same : ledger wholeSheet wholeFrames ≡ ledger wholeSheet (offersOf wholeSheet wholeBlocks)
+pub frames-same : ledger wholeSheet wholeFrames ≡ ledger wholeSheet (offersOf wholeSheet wholeBlocks)
 unfolding tabulate pick le checkBlock citesOf cutOf frameAt parse anyTo home hasPart _then_ refuse firstTo appended historyOf offerNeeds lentAnswer unusedSet frontAnswer valuesAnswer lastRank lastEntry entryOff citedBefore citeAnswer blockAnswer idleAnswer answer next ledger
-asFrames-same = refl
+frames-same = refl
 
 pub cuts-same : ledger wholeSheet (offersOf wholeSheet wholeShort) ≡ ledger wholeSheet (offersOf wholeSheet wholeBlocks)
 unfolding tabulate pick anyTo home hasPart _then_ refuse firstTo appended historyOf offerNeeds lentAnswer unusedSet frontAnswer valuesAnswer lastRank lastEntry entryOff citedBefore citeAnswer blockAnswer idleAnswer answer next ledger

@@ -12,6 +12,7 @@ use mir.Val.{Fits}
 use native.Mathlib.Omega.{arith}
 use Rattle.admission.specs.Replies.{replyTo}
 use Rattle.extent.proofs.Bound.{text-fits}
+use Rattle.extent.specs.Buffers.{bytesOf}
 use Rattle.plain.proofs.AnswerLaws.{lent-enough, refuse-false, refuse-true, then-accepted, then-go, then-stop}
 use Rattle.plain.specs.Answer.{Answer, _then_, accepted, refuse, refused}
 use Rattle.plain.specs.Plain.{lentAnswer}
@@ -21,7 +22,7 @@ use Rattle.refusals.specs.declared.Checked.{Checked}
 use Rattle.refusals.specs.declared.Refusal.{Refusal}
 use Rattle.replay.specs.Inner.{Ample}
 use Rattle.replay.specs.Reading.{readingText}
-use Rattle.report.specs.Reports.{Reports, Spared, reportNeeds}
+use Rattle.report.specs.Reports.{ReportFits, Reports, Spared, reportNeeds}
 use Rattle.settlement.specs.Tables.{Buffers}
 use Rattle.state.specs.State.{Kept, lengthsOf}
 use Rattle.text.specs.Wrote.{Wrote}
@@ -76,3 +77,9 @@ module _ (run : List ℕ) (K : Kept) (W : Buffers) (out : List ℕ) where
       let long = room-ample K W (length out) e .1 in
       let whole = stored-whole (readingText run) out out' n (omega arith) w in
       record { answered = e; inside = omega (arith, whole .0); text = λ t. whole; spared = λ t. rest; quiet = λ f. absurd (let z : _≡_ {A = ℕ} 0 1 = cc in omega arith) }
+
+-- ---- what a caller has to lend
+
+pub lent-fits : ReportFits
+unfolding bytesOf
+lent-fits = omega arith

@@ -5,6 +5,7 @@ use lib.ListN.{drop, length}
 use mathlib.Core.Bool.{false, true}
 use mathlib.Core.List.{List, [], _++_, _∷_}
 use mathlib.Core.Path.{_≡_}
+use Rattle.extent.specs.Buffers.{bytesOf, offerWidths}
 use Rattle.plain.specs.Answer.{Answer, isAccepted}
 use Rattle.plain.specs.Plain.{lentAnswer}
 use Rattle.replay.specs.Reading.{readingText}
@@ -14,6 +15,10 @@ use Rattle.state.specs.State.{Kept, lengthsOf}
 -- least lengths, in the order of the call: those of the largest sheet (docs/BUFFERS.md), and the text's
 abbrev pub reportNeeds : List ℕ
 reportNeeds = 110592 ∷ 2048 ∷ 32768 ∷ 65536 ∷ 65536 ∷ 2048 ∷ 1024 ∷ 2048 ∷ 262144 ∷ []
+
+-- they keep to "at most 4,194,304 bytes" as the buffers of every other call do
+abbrev pub ReportFits : Type 0
+ReportFits = bytesOf (offerWidths ++ (1 ∷ [])) reportNeeds ≤ 4194304
 
 -- Each buffer is as it was from its least length on. Up to there, where it holds the ledger while the run is read, it is left free
 pub record Spared (K : Kept) (W : Buffers) (K' : Kept) (W' : Buffers) : Type 0 where
