@@ -3,3 +3,4 @@ pub mod OpenLaws
 pub mod LineLaws
 pub mod ChainLaws
 pub mod PutLaws
+pub mod WorkedRun

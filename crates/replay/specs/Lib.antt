@@ -2,3 +2,4 @@
 pub mod Opening
 pub mod Reading
 pub mod Inner
+pub mod Worked
