@@ -7,9 +7,10 @@ use mathlib.Core.Logic.{_≢_}
 use mathlib.Core.Path.{_∙_, _≡_, ap, ap₂, refl, subst, sym}
 use native.Mathlib.Decide.{decLt}
 use native.Mathlib.Omega.{arith}
+use Rattle.demand.proofs.Anew.{anew-beside}
 use Rattle.demand.proofs.Opened.{opened, sheet-proper, sheet-said}
-use Rattle.demand.proofs.Steps.{Beside, offer-answer, offer-beside, outcomes-right, read-told, report-right, short-beside, short-told}
-use Rattle.demand.specs.Chain.{Calls, Event, InUse, loading, offer, reading, short, stop}
+use Rattle.demand.proofs.Steps.{Beside, offer-answer, offer-beside, outcomes-right, read-told, few-told, report-right, short-beside, short-told}
+use Rattle.demand.specs.Chain.{Calls, Event, InUse, anew, few-load, few-read, loading, offer, reading, short, stop}
 use Rattle.demand.specs.Claim.{Agree, Demand, Plainly, Read, logsOf, offersIn, settlementIn}
 use Rattle.escrow.proofs.FullView.{freeAll, heldAll, logAll}
 use Rattle.escrow.proofs.Growth.{log-grown, outcome-grown, status-grown}
@@ -55,9 +56,15 @@ along S Q l K es l' K' L (offer {K' = K1} {es = rest} {r = r} o lent p q) I =
 along S Q l K es l' K' L (short {es = rest} {r = r} o lent few p q) I =
     let (t, J) = along S Q (r .ledger) K rest l' K' _ q (short-beside S l K _ _ o r _ _ L few p I) in
     ((short-told S l K _ _ o r _ _ L few p I, t), J)
+along S Q l K es l' K' L (anew {J = J} f c) I = along S Q l J es l' K' L c (anew-beside l K J f S Q L I)
 along S Q l K es l' K' L (reading {es = rest} {q = q} R c) I =
     let (t, J) = along S Q l K rest l' K' L c I in
     ((read-told S Q l K _ _ _ _ _ _ L I q R, t), J)
+along S Q l K es l' K' L (few-read {es = rest} {q = q} J few R c) I =
+    let (t, B) = along S Q l K rest l' K' L c I in
+    ((few-told S l K J _ _ q _ _ _ _ L few R I, t), B)
+along S Q l K es l' K' L (few-load {r = r} s c) I =
+    along S Q (r .ledger) K es l' K' L c (rw (ap (λ (z : Loaded). z .ledger) (s .whole (I .whole) .0)) I)
 along S Q l K es l' K' L (loading {cells = cells} {run = run} {at = at} {r = r} s c) I = along S Q (r .ledger) _ es l' K' L c (loaded-beside S l K L run at cells r s I)
 
 module _ (S : Sheet) (es : List Event) (l : Ledger) (K : Kept) (U : InUse S es l K) where
@@ -67,7 +74,7 @@ module _ (S : Sheet) (es : List Event) (l : Ledger) (K : Kept) (U : InUse S es l
   pub Q : ProperSheet S
   Q = subst ProperSheet (sym first-sheet) (sheet-proper S (U .first) (U .lent) (U .opened) (U .whole))
 
-  begins : Beside S (U .first) (U .lent) (emptyLogs S)
+  pub begins : Beside S (U .first) (U .lent) (emptyLogs S)
   begins =
       let e = opened (U .opened) .empty in
       record {

@@ -1,28 +1,30 @@
 -- A sheet that was loaded to its end is what the frames said and is proper, and no block is there yet.
 -- Assumes nothing.
-use Prim.Native.Nat.{_≤_, ℕ}
-use borrow.Author.Tests.{eq-eqb, eqb-true, ne-eqb}
+use Prim.Native.Nat.{_<_, _≤_, ℕ}
+use borrow.Author.Tests.{eq-eqb, eqb-true, lt-ltb, ne-eqb}
 use lib.Dec.{eqb, ltb}
-use lib.ListN.{length, replicate}
+use lib.ListN.{length, length-take, replicate, take}
 use mathlib.Core.Bool.{Bool, false, true}
 use mathlib.Core.List.{List}
 use mathlib.Core.Logic.{_⊎_, inl, inr}
 use mathlib.Core.Path.{_∙_, _≡_, ap, refl, subst, sym}
 use native.Mathlib.Omega.{arith}
-use Rattle.demand.specs.Chain.{Opening, begin, load, sheetAfter, sheetWith}
+use Rattle.demand.proofs.Fronts.{sheet-front}
+use Rattle.demand.specs.Chain.{Opening, SameFront, begin, few, load, moved, sheetAfter, sheetWith}
 use Rattle.frames.proofs.StepLaws.{due-four, due-late, judged-kind, took-judged}
 use Rattle.frames.specs.Frame.{bodyAt, bodyOf, frameAt}
 use Rattle.frames.specs.Step.{headerLoaded, kindDue, stepAt}
 use Rattle.frames.specs.declared.step.Loading.{Loading}
 use Rattle.frames.specs.declared.step.Step.{Step}
-use Rattle.frames_load.proofs.ProperLaws.{loaded-complete}
+use Rattle.frames_load.proofs.ProperLaws.{load-proper, load-room, loaded-proper, so-far-complete}
 use Rattle.frames_load.specs.Load.{Adds, LoadStep, Loads, loadAnswer, loadCells, loadedCells, room, sheetSoFar, withBalances, withTransaction}
-use Rattle.frames_load.specs.Proper.{Loaded, fresh, more}
+use Rattle.frames_load.specs.Proper.{ProperSoFar, fresh}
 use Rattle.refusals.specs.declared.Refusal.{Refusal}
 use Rattle.sheets.proofs.ProperLaws.{ProperSheet, proper-sheet}
 use Rattle.sheets.specs.Sheet.{Sheet, sheetFrom, sheetIn}
+use Rattle.state.specs.Lengths.{leastLengths}
 use Rattle.state.specs.Loading.{LoadsSheet, afterStep}
-use Rattle.state.specs.State.{Kept, complete, sheetOf}
+use Rattle.state.specs.State.{Kept, complete, freshLedger, sheetOf}
 use Rattle.state.specs.declared.ledger.Ledger.{Ledger}
 use Rattle.state.specs.declared.load.Loaded as taken
 use Rattle.sums.proofs.TestLaws.{by-pick, passed, peel, pick-false, took}
@@ -56,10 +58,11 @@ unfolding loadAnswer
 own-step run at s next end n q = peel (ltb n (room s)) (refused-untaken _ next end) q .1
 
 pub record Opened (l : Ledger) (cells : List ℕ) (S : Sheet) : Type 0 where
-  pub loaded : Loaded (l .loading) cells
+  pub proper : ProperSoFar (l .loading) (sheetSoFar (l .loading) cells)
   pub empty : l .heights ≡ replicate 16 0
   -- once the balances are there
   pub said : 2 ≤ l .loading .stage → S ≡ sheetSoFar (l .loading) cells
+  pub room : 2 ≤ l .loading .stage → leastLengths l .sheet ≤ length cells
 
 module _ (l : Ledger) (cells cells' run : List ℕ) (at : ℕ) (S : Sheet) (r : taken.Loaded) (p : Opened l cells S) (s : LoadsSheet l run at cells cells' r) where
   After : Type 0
@@ -87,7 +90,7 @@ module _ (l : Ledger) (cells cells' run : List ℕ) (at : ℕ) (S : Sheet) (r : 
 
   by-step : complete l ≡ false → (t : Step) → LoadStep run at (l .loading) cells cells' t → r ≡ afterStep l t → After
   unfolding After
-  by-step c (Step.Took n e) L q = rw q (record { loaded = more run at e (p .loaded) (L .bytes); empty = p .empty; said = added c (Step.Took n e) L n e refl })
+  by-step c (Step.Took n e) L q = rw q (record { proper = load-proper run at (l .loading) cells cells' n e (L .bytes) (p .proper); empty = p .empty; said = added c (Step.Took n e) L n e refl; room = load-room run at (l .loading) cells cells' n e (L .bytes) })
   by-step c (Step.Refused x) L q = rw (q, untaken-cells run at (l .loading) cells cells' (Step.Refused x) (L .bytes) (refused-untaken x)) p
   by-step c Step.End L q = rw (q, untaken-cells run at (l .loading) cells cells' Step.End (L .bytes) end-untaken) p
 
@@ -96,10 +99,44 @@ module _ (l : Ledger) (cells cells' run : List ℕ) (at : ℕ) (S : Sheet) (r : 
   by-complete true e = rw (s .whole e .0, s .whole e .1) p
   by-complete false e = let (t, L, q) = s .loads e in by-step e t L q
 
+-- a call whose cells are too short is refused, and leaves the ledger as it was
+module _ (l : Ledger) (other other' run : List ℕ) (at : ℕ) (r : taken.Loaded) (h : length other < room (l .loading)) (s : LoadsSheet l run at other other' r) where
+  few-step : (t : Step) → LoadStep run at (l .loading) other other' t → afterStep l t .ledger ≡ l
+  unfolding loadAnswer
+  few-step t L = rw (L .bytes .answers ∙ took _ (lt-ltb (length other) (room (l .loading)) h) refl) refl
+
+  by-few : (b : Bool) → complete l ≡ b → r .ledger ≡ l
+  by-few true e = ap (λ (x : taken.Loaded). x .ledger) (s .whole e .0)
+  by-few false e = let (t, L, q) = s .loads e in ap (λ (x : taken.Loaded). x .ledger) q ∙ few-step t L
+
+  pub few-same : r .ledger ≡ l
+  few-same = by-few (complete l) refl
+
+-- the same cells elsewhere
+module _ (l : Ledger) (cells cells' : List ℕ) (S : Sheet) (p : Opened l cells S) (e : 2 ≤ l .loading .stage → SameFront (leastLengths l .sheet) cells' cells) where
+  same-sheet : 2 ≤ l .loading .stage → sheetSoFar (l .loading) cells' ≡ sheetSoFar (l .loading) cells
+  unfolding sheetSoFar
+  same-sheet h = sheet-front (l .loading .m) (l .loading .a) (l .loading .g) (l .loading .loaded) (l .loading .t) cells cells' (p .proper .count h) (e h)
+
+  elsewhere : Opened l cells' S
+  elsewhere = record {
+    proper = record {
+      header = p .proper .header;
+      count = p .proper .count;
+      balances = λ h. rw (same-sheet h) (p .proper .balances h);
+      transactions = λ h. rw (same-sheet h) (p .proper .transactions h);
+    };
+    empty = p .empty;
+    said = λ h. p .said h ∙ sym (same-sheet h);
+    room = λ h. omega (arith, p .room h, length-take (leastLengths l .sheet) cells, length-take (leastLengths l .sheet) cells', ap length (e h));
+  }
+
 pub opened : {l : Ledger} {cells : List ℕ} {S : Sheet} → Opening l cells S → Opened l cells S
 unfolding After
-opened begin = record { loaded = fresh refl; empty = refl; said = λ u. absurd (omega arith) }
+opened (begin {cells = cells}) = record { proper = loaded-proper (fresh {s = freshLedger .loading} {cells = cells} refl); empty = refl; said = λ u. absurd (omega arith); room = λ u. absurd (omega arith) }
 opened (load {l} {cells} {cells'} {run} {at} {S} {r} o s) = by-complete l cells cells' run at S r (opened o) s (complete l) refl
+opened (few {l} {cells} {other} {other'} {run} {at} {S} {r} o h s) = rw (few-same l other other' run at r h s) (opened o)
+opened (moved {l} {cells} {cells'} {S} o e) = elsewhere l cells cells' S (opened o) e
 
 -- the loaded sheet is the one that the ledger's numbers read from the cells
 pub whole-sheet : (l : Ledger) (K : Kept) → complete l ≡ true → sheetSoFar (l .loading) (K .sheet) ≡ sheetOf l K
@@ -113,5 +150,5 @@ sheet-said S l K o e = opened o .said (due-late (l .loading) 4 (omega arith) (eq
 pub sheet-proper : (S : Sheet) (l : Ledger) (K : Kept) → Opening l (K .sheet) S → complete l ≡ true → ProperSheet (sheetOf l K)
 unfolding complete
 sheet-proper S l K o e =
-    let c = loaded-complete (l .loading) (K .sheet) (opened o .loaded) (eqb-true (kindDue (l .loading)) 4 e) in
+    let c = so-far-complete (l .loading) (K .sheet) (opened o .proper) (eqb-true (kindDue (l .loading)) 4 e) in
     subst ProperSheet (whole-sheet l K e) (proper-sheet (sheetSoFar (l .loading) (K .sheet)) (c .proper))

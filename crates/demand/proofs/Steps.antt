@@ -1,12 +1,13 @@
 -- Each call keeps the ledger beside the plain ledger.
 -- Assumes nothing.
-use Prim.Native.Nat.{_*_, _≤_, suc, zero, ℕ}
+use Prim.Native.Nat.{_*_, _≤_, ℕ}
 use lib.Dec.{eqb}
-use lib.ListN.{length, length-set}
-use mathlib.Core.Bool.{Bool, false, true}
+use lib.ListN.{length}
+use mathlib.Core.Bool.{Bool, false, not, true}
 use mathlib.Core.List.{List, [], _++_, _∷_, map}
 use mathlib.Core.Path.{_∙_, _≡_, ap, ap₂, refl, subst, sym}
 use native.Mathlib.Omega.{arith}
+use Rattle.demand.proofs.Lengths.{offered-lengths}
 use Rattle.escrow.proofs.Growth.{outcome-grown}
 use Rattle.escrow.specs.Cells.{historyIn}
 use Rattle.escrow.specs.Outcome.{Citation, History, InLogs, fullView, outcome}
@@ -14,16 +15,16 @@ use Rattle.offers.specs.Offering.{Offers, answerFrom, replyOf}
 use Rattle.offers.specs.declared.answer.Offered.{Offered}
 use Rattle.ordering.specs.Order.{Ref}
 use Rattle.plain.proofs.Alike.{alike-extends}
-use Rattle.plain.proofs.AnswerLaws.{lent-enough, offer-lent, then-keep, then-not}
+use Rattle.plain.proofs.AnswerLaws.{lent-enough, lent-front, offer-lent, then-keep, then-not}
 use Rattle.plain.proofs.Engine.{Answered, Engine, reportFrom, wholeView}
 use Rattle.plain.proofs.Follow.{Follows, follows-next, same-answer}
 use Rattle.plain.proofs.Kept.{proper}
 use Rattle.plain.proofs.Reading.{reads-right}
-use Rattle.plain.specs.Answer.{Answer, _then_, accepted, isAccepted}
+use Rattle.plain.specs.Answer.{Answer, _then_, accepted, isAccepted, refuse}
 use Rattle.plain.specs.Logs.{Logs, Values, historyOf}
 use Rattle.plain.specs.Offers.{Offer, lentOf, offerNeeds, offered}
 use Rattle.plain.specs.Plain.{answer, idleAnswer, lentAnswer, next}
-use Rattle.plain.specs.Report.{Query, Report, Tells, accounts, fillNeeds, listsOf, log, readAnswer, registers, reportBy, reportOf, settlements, share, valueOf, workNeeds}
+use Rattle.plain.specs.Report.{Query, Report, Tells, accounts, fillNeeds, listsOf, log, readAnswer, registers, reportBy, reportOf, settleNeeds, settlements, share, valueOf, workNeeds}
 use Rattle.readings.specs.Reading.{Reads, lentTo, reportIn, workLengths}
 use Rattle.settlement.specs.Cells.{rowsIn}
 use Rattle.settlement.specs.Tables.{Buffers}
@@ -34,11 +35,10 @@ use Rattle.sheets.specs.Sheet.{Sheet}
 use Rattle.state.proofs.Engine.{Roomy, engineIn}
 use Rattle.state.proofs.Grows.{rows-in}
 use Rattle.state.proofs.OnCells.{cells-answered}
-use Rattle.state.specs.Cells.{Cells, cellsOffered, judgedIn, pastIn, storedIn, takenIn}
+use Rattle.state.specs.Cells.{Cells, cellsOffered, pastIn}
 use Rattle.state.specs.State.{Kept, cellsOf, complete, kept, lengthsOf, sheetOf, sizesOf}
 use Rattle.state.specs.declared.ledger.Ledger.{Ledger}
-use Rattle.sums.proofs.TestLaws.{by-pick, pick-false, pick-true}
-use Rattle.sums.specs.Fold.{foldTo}
+use Rattle.sums.proofs.TestLaws.{pick-false, pick-true}
 
 -- the ledger l with its buffers K, and the plain ledger's logs L
 pub record Beside (S : Sheet) (l : Ledger) (K : Kept) (L : Logs) : Type 0 where
@@ -48,17 +48,6 @@ pub record Beside (S : Sheet) (l : Ledger) (K : Kept) (L : Logs) : Type 0 where
   pub follows : Follows S (engineIn (cellsOf l K)) L
 
 -- ---- an offer
-
-heights-judged : (S : Sheet) (i : ℕ) (p : ℕ → ℕ) (D : Cells) (n : ℕ) → foldTo n (λ q. judgedIn S i (p q)) D .heights ≡ D .heights
-unfolding foldTo judgedIn
-heights-judged S i p D zero = refl
-heights-judged S i p D (suc n) = heights-judged S i p D n
-
-heights-offered : (S : Sheet) (a : Answer) (b : Values) (C : Cells) → length (cellsOffered S a b C .heights) ≡ length (C .heights)
-unfolding cellsOffered takenIn
-heights-offered S a b C =
-    by-pick (λ (D : Cells). length (D .heights) ≡ length (C .heights)) (isAccepted a)
-    (λ e. ap length (heights-judged S (b .instance) _ (storedIn b C) 32) ∙ (unfold storedIn in length-set (C .heights) (b .instance) _)) (λ e. refl)
 
 module _ (S : Sheet) (Q : ProperSheet S) (l : Ledger) (K : Kept) (W : Buffers) (o : Offer) (r : Offered) (K' : Kept) (W' : Buffers) (L : Logs)
     (p : Offers l K W o r K' W') (lent : lentOf o ≡ lengthsOf K W) (I : Beside S l K L) where
@@ -92,7 +81,7 @@ module _ (S : Sheet) (Q : ProperSheet S) (l : Ledger) (K : Kept) (W : Buffers) (
   offer-beside = record {
     whole = unfold complete in rw (p .loading) (I .whole);
     sheet = I .sheet ∙ rw (p .loading, p .sheet) refl;
-    sixteen = ap (λ (D : Cells). length (D .heights)) cells-are ∙ heights-offered S _ (offered S o) (cellsOf l K) ∙ I .sixteen;
+    sixteen = ap (λ (D : Cells). length (D .heights)) cells-are ∙ offered-lengths S _ (offered S o) (cellsOf l K) .heights ∙ I .sixteen;
     follows = follows-next S Q _ _ L o _ step (I .follows);
   }
 
@@ -198,3 +187,57 @@ module _ (S : Sheet) (Q : ProperSheet S) (l : Ledger) (K : Kept) (W W' : Buffers
   read-told log R =
       told-log _ S _ (reportOf S L) _ _ outs a n outs' (I .whole) (sheet-m [] (sizesOf l) ∙ sym (sheet-m (K .sheet) (sizesOf l)) ∙ ap (λ (T : Sheet). T .m) (sym (I .sheet)))
       (lent-log l K ∙ ap (λ (x : Report). x .log) (report-right S Q l K L I)) (R .tells)
+
+-- ---- a reading that lends too little: 16, whatever the buffers hold
+
+settle-same : (l : Ledger) (J K : Kept) → settleNeeds (sheetOf l J) ≡ settleNeeds (sheetOf l K)
+unfolding settleNeeds
+settle-same l J K =
+    rw (sheet-m (J .sheet) (sizesOf l), sheet-a (J .sheet) (sizesOf l), sheet-count (J .sheet) (sizesOf l))
+    (rw (sheet-m (K .sheet) (sizesOf l), sheet-a (K .sheet) (sizesOf l), sheet-count (K .sheet) (sizesOf l)) refl)
+
+work-same : (l : Ledger) (J K : Kept) (q : Query) → workNeeds (sheetOf l J) q ≡ workNeeds (sheetOf l K) q
+unfolding workNeeds
+work-same l J K accounts = settle-same l J K
+work-same l J K registers = settle-same l J K
+work-same l J K settlements = settle-same l J K
+work-same l J K share = settle-same l J K
+work-same l J K log = rw (sheet-m (J .sheet) (sizesOf l), sheet-m (K .sheet) (sizesOf l)) refl
+
+as-many : (S : Sheet) (q : Query) (K : Kept) (W : Buffers) → length (workNeeds S q) ≡ length (workLengths q K W)
+unfolding workNeeds settleNeeds
+as-many S accounts K W = refl
+as-many S registers K W = refl
+as-many S settlements K W = refl
+as-many S share K W = refl
+as-many S log K W = refl
+
+few-answer : (c : Bool) (S : Sheet) (r : Report) (q : Query) (K : Kept) (W : Buffers) (lists : List ℕ) → isAccepted (lentAnswer (workNeeds S q) (workLengths q K W)) ≡ false
+    → readAnswer c S r q (workLengths q K W ++ lists) ≡ (refuse (not c) 3 0 then lentAnswer (workNeeds S q) (workLengths q K W))
+unfolding readAnswer
+few-answer c S r q K W lists few = ap (λ (x : Answer). refuse (not c) 3 0 then x) (lent-front (workNeeds S q) (workLengths q K W) _ lists (as-many S q K W) few)
+
+module _ (S : Sheet) (l : Ledger) (K J : Kept) (W W' : Buffers) (q : Query) (outs outs' : List (List ℕ)) (a : Answer) (n : ℕ) (L : Logs)
+    (few : isAccepted (lentAnswer (workNeeds (sheetOf l K) q) (workLengths q (lentTo q J) W)) ≡ false) (R : Reads l (lentTo q J) W q outs a n W' outs') (I : Beside S l K L) where
+  needs-there : workNeeds (sheetOf l (lentTo q J)) q ≡ workNeeds S q
+  needs-there = work-same l (lentTo q J) K q ∙ ap (λ (T : Sheet). workNeeds T q) (sym (I .sheet))
+
+  few-work : isAccepted (lentAnswer (workNeeds S q) (workLengths q (lentTo q J) W)) ≡ false
+  few-work = rw (I .sheet) few
+
+  found-few : a ≡ readAnswer true S (reportOf S L) q (workLengths q (lentTo q J) W ++ map length outs)
+  found-few =
+      R .tells .answered
+      ∙ few-answer (complete l) (sheetOf l (lentTo q J)) _ q (lentTo q J) W _ (rw needs-there few-work)
+      ∙ ap₂ (λ (c : Bool) (x : List ℕ). refuse (not c) 3 0 then lentAnswer x (workLengths q (lentTo q J) W)) (I .whole) needs-there
+      ∙ sym (few-answer true S (reportOf S L) q (lentTo q J) W _ few-work)
+
+  not-read : isAccepted a ≡ false
+  not-read = ap isAccepted (found-few ∙ few-answer true S (reportOf S L) q (lentTo q J) W _ few-work) ∙ then-not (refuse (not true) 3 0) _ few-work
+
+  pub few-told : Tells true S (reportOf S L) q (workLengths q (lentTo q J) W) outs a n outs'
+  few-told = record {
+    answered = found-few;
+    value = R .tells .value ∙ pick-false _ _ _ not-read ∙ sym (pick-false _ _ _ not-read);
+    lists = R .tells .lists ∙ pick-false _ _ _ not-read ∙ sym (pick-false _ _ _ not-read);
+  }

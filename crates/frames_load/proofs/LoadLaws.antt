@@ -2,9 +2,9 @@
 -- Assumes nothing.
 use Prim.Native.Nat.{_*_, _+_, _-_, _<_, _≤_, min, ℕ}
 use borrow.Author.Tests.{eq-eqb, le-ltb, lt-ltb, ltb-false, ne-eqb}
-use lib.Dec.{ltb}
+use lib.Dec.{eqb, ltb}
 use lib.ListN.{drop, length, take}
-use lib.Seq.{sets}
+use lib.Seq.{length-sets, sets}
 use mathlib.Core.Bool.{Bool, false, true}
 use mathlib.Core.List.{List}
 use mathlib.Core.Path.{_∙_, _≡_, ap, refl, sym}
@@ -23,7 +23,7 @@ use Rattle.frames.specs.Step.{kindDue, stepAt}
 use Rattle.frames_load.specs.Load.{LoadStep, Adds, Loads, bodyStored, loadAnswer, loadCells, loadedCells, room, sheetSoFar, withBalances, withTransaction}
 use Rattle.sums.proofs.LoopLaws.{tabulate-more}
 use Rattle.sums.proofs.SeqLaws.{getD-tabulate, length-tabulate, tabulate-ext}
-use Rattle.sums.proofs.TestLaws.{passed, peel, took}
+use Rattle.sums.proofs.TestLaws.{by-pick, passed, peel, took}
 use Rattle.sums.specs.Seq.{tabulate}
 use Rattle.sums.specs.Test.{pick}
 use Rattle.transactions.proofs.BodyLaws.{BodyFine, judged-anywhere, transaction-checked, transaction-fine, transaction-front}
@@ -35,9 +35,15 @@ use Rattle.refusals.specs.declared.Checked.the-variants.{Fine}
 use Rattle.refusals.specs.declared.Refusal.{Refusal}
 use Rattle.refusals.specs.declared.Refusal.the-variants.{BufferShort}
 
-room-is : (s : Loading) (k : ℕ) → 2 ≤ k → kindDue s ≡ k → room s ≡ slotFrom (s .a) (s .t)
+pub room-is : (s : Loading) (k : ℕ) → 2 ≤ k → kindDue s ≡ k → room s ≡ slotFrom (s .a) (s .t)
 unfolding room
 room-is s k h e = passed _ (begun s k h e) refl
+
+pub length-stored : (s : Loading) (b cells : List ℕ) → length (bodyStored s b cells) ≡ length cells
+unfolding bodyStored
+length-stored s b cells =
+    by-pick (λ (c : List ℕ). length c ≡ length cells) (eqb (kindDue s) 2) (λ e. length-sets cells 0 b)
+    (λ e. by-pick (λ (c : List ℕ). length c ≡ length cells) (eqb (kindDue s) 3) (λ u. length-sets cells _ b) (λ u. refl))
 
 -- what was taken is fine, fits the room, and goes to its place
 module _ (s : Loading) (run : List ℕ) (at : ℕ) (next : Loading) (end : ℕ) (q : stepAt run at s ≡ Step.Took next end) where

@@ -9,13 +9,13 @@ use mathlib.Core.Logic.{_⊎_, inl, inr, ⊎-elim}
 use mathlib.Core.Path.{_∙_, _≡_, ap, refl}
 use native.Mathlib.Nat.{eq-or-lt-of-le}
 use native.Mathlib.Omega.{arith}
-use Rattle.frames.proofs.StepLaws.{after-balances, after-header, after-transaction, due-four, due-header-ok, due-late, due-three, judged-kind, took-judged}
+use Rattle.frames.proofs.StepLaws.{after-balances, after-block, after-header, after-transaction, due-four, due-header-ok, due-late, due-three, judged-kind, took-judged}
 use Rattle.frames.specs.Balances.{balancesOk}
 use Rattle.frames.specs.Frame.{bodyAt}
 use Rattle.frames.specs.Header.{headerOf, headerOk}
-use Rattle.sheets.specs.Sheet.{Sheet, balanceIn, sheetFrom, transactionIn}
+use Rattle.sheets.specs.Sheet.{Sheet, balanceIn, sheetFrom, slotFrom, transactionIn}
 use Rattle.frames.specs.Step.{headerLoaded, kindDue, loadingAfter, stepAt}
-use Rattle.frames_load.proofs.LoadLaws.{load-adds, took-balances, took-header, took-it, took-judgement}
+use Rattle.frames_load.proofs.LoadLaws.{length-stored, load-adds, room-is, took-balances, took-header, took-it, took-judgement}
 use Rattle.frames_load.specs.Load.{Loads, sheetSoFar, withBalances}
 use Rattle.frames_load.specs.Proper.{CompleteSheet, IsComplete, Loaded, ProperSoFar}
 use Rattle.sheets.proofs.ProperLaws.{proper-so}
@@ -119,16 +119,41 @@ module _ (run : List ℕ) (at : ℕ) (s : Loading) (before after : List ℕ) (ne
   pub load-proper : ProperSoFar next (sheetSoFar next after)
   load-proper = by-kind (judged-kind s (kindDue s) (bodyAt run at) at (took-judged s run at next end step .0))
 
+-- once the balances were taken there is room for the whole sheet
+module _ (run : List ℕ) (at : ℕ) (s : Loading) (before after : List ℕ) (next : Loading) (end : ℕ) (l : Loads run at s before after (Step.Took next end)) where
+  same-room : (k : ℕ) → 2 ≤ k → kindDue s ≡ k → next .a ≡ s .a → next .t ≡ s .t → slotFrom (next .a) (next .t) ≤ length after
+  same-room k h e a t =
+      let T = took-it run at s before after next end l in
+      let long : length after ≡ length before = ap length (T .stored) ∙ length-stored s (bodyAt run at) before in
+      rw (a, t) (omega (arith, T .wide, room-is s k h e, long))
+
+  pub load-room : 2 ≤ next .stage → slotFrom (next .a) (next .t) ≤ length after
+  unfolding headerLoaded
+  load-room late =
+      let J = took-judged s run at next end (took-it run at s before after next end l .step) in
+      by-kind (J .1) (judged-kind s (kindDue s) (bodyAt run at) at (J .0))
+    where
+      by-kind : next ≡ loadingAfter s (kindDue s) (bodyAt run at) → (kindDue s ≡ 1) ⊎ ((kindDue s ≡ 2) ⊎ ((kindDue s ≡ 3) ⊎ (kindDue s ≡ 4))) → slotFrom (next .a) (next .t) ≤ length after
+      by-kind is (inl e) = absurd (omega (arith, late, ap (λ (n : Loading). n .stage) (is ∙ after-header s (kindDue s) (bodyAt run at) e)))
+      by-kind is (inr (inl e)) =
+          let q = is ∙ after-balances s (kindDue s) (bodyAt run at) e in
+          same-room 2 (omega arith) e (ap (λ (n : Loading). n .a) q) (ap (λ (n : Loading). n .t) q)
+      by-kind is (inr (inr (inl e))) =
+          let q = is ∙ after-transaction s (kindDue s) (bodyAt run at) e (due-three s e) in
+          same-room 3 (omega arith) e (ap (λ (n : Loading). n .a) q) (ap (λ (n : Loading). n .t) q)
+      by-kind is (inr (inr (inr e))) =
+          let q = is ∙ after-block s (kindDue s) (bodyAt run at) e in
+          same-room 4 (omega arith) e (ap (λ (n : Loading). n .a) q) (ap (λ (n : Loading). n .t) q)
+
 -- so it holds of every state that calls of `load` reach
 pub loaded-proper : {s : Loading} {cells : List ℕ} → Loaded s cells → ProperSoFar s (sheetSoFar s cells)
 loaded-proper {s} {cells} (Loaded.fresh e) = fresh-so-far s (sheetSoFar s cells) e
 loaded-proper (Loaded.more {s} {next} {before} {after} run at end h l) = load-proper run at s before after next end l (loaded-proper h)
 
 -- a sheet that loading completed is proper, and has t transactions
-pub loaded-complete : (s : Loading) (cells : List ℕ) → Loaded s cells → IsComplete s → CompleteSheet s (sheetSoFar s cells)
+pub so-far-complete : (s : Loading) (cells : List ℕ) → ProperSoFar s (sheetSoFar s cells) → IsComplete s → CompleteSheet s (sheetSoFar s cells)
 unfolding sheetSoFar sheetFrom
-loaded-complete s cells h e =
-    let p = loaded-proper h in
+so-far-complete s cells p e =
     let late = due-late s 4 (omega arith) e in
     let full = due-four s e in
     let many : length (sheetSoFar s cells .transactions) ≡ s .t = length-so-far s cells ∙ full in
@@ -140,3 +165,6 @@ loaded-complete s cells h e =
       registers = refl;
       count = many;
     }
+
+pub loaded-complete : (s : Loading) (cells : List ℕ) → Loaded s cells → IsComplete s → CompleteSheet s (sheetSoFar s cells)
+loaded-complete s cells h e = so-far-complete s cells (loaded-proper h) e

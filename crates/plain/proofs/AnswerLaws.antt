@@ -5,7 +5,7 @@ use borrow.Author.Tests.{ltb-false}
 use lib.Dec.{ltb}
 use lib.ListN.{getD, length}
 use mathlib.Core.Bool.{Bool, false, true}
-use mathlib.Core.List.{List, _∷_}
+use mathlib.Core.List.{List, [], _++_, _∷_}
 use mathlib.Core.Logic.{inl, inr}
 use mathlib.Core.Path.{_∙_, _≡_, ap, ap₂, refl}
 use native.Mathlib.Decide.{decLt}
@@ -131,6 +131,18 @@ unfolding lentAnswer
 lent-enough n k needs lent e =
     let (a, b) = then-pass _ _ e in
     (ltb-false k n (refuse-pass (ltb k n) 16 n a), b)
+
+-- the first buffers that are too short settle the answer
+pub lent-front : (needs lent needs' lent' : List ℕ) → length needs ≡ length lent → isAccepted (lentAnswer needs lent) ≡ false → lentAnswer (needs ++ needs') (lent ++ lent') ≡ lentAnswer needs lent
+unfolding lentAnswer refuse _then_
+lent-front [] lent needs' lent' e few = cc
+lent-front (n ∷ needs) [] needs' lent' e few = absurd (omega arith)
+lent-front (n ∷ needs) (k ∷ lent) needs' lent' e few = go (λ h. lent-front needs lent needs' lent' (omega arith) h) (ltb k n) few
+  where
+    go : (isAccepted (lentAnswer needs lent) ≡ false → lentAnswer (needs ++ needs') (lent ++ lent') ≡ lentAnswer needs lent)
+        → (t : Bool) → isAccepted (refuse t 16 n then lentAnswer needs lent) ≡ false → (refuse t 16 n then lentAnswer (needs ++ needs') (lent ++ lent')) ≡ (refuse t 16 n then lentAnswer needs lent)
+    go rest true few = refl
+    go rest false few = rest few
 
 pub offer-lent : (S : Sheet) (H : History) (o : Offer) → answer S H o ≡ accepted → lentAnswer (offerNeeds S) (lentOf o) ≡ accepted
 unfolding answer

@@ -6,7 +6,8 @@ use mathlib.Core.Bool.{true}
 use mathlib.Core.List.{List, [], _++_, _∷_, foldl}
 use mathlib.Core.Path.{_∙_, _≡_, ap, refl, sym}
 use native.Mathlib.Omega.{arith}
-use Rattle.demand.specs.Chain.{Calls, Event, InUse, asked, loading, offer, offered, reading, short, stop}
+use Rattle.demand.proofs.Joined.{use-on}
+use Rattle.demand.specs.Chain.{Event, InUse, asked, offer, offered, stop}
 use Rattle.demand.specs.Claim.{logsOf, offersIn}
 use Rattle.frames.proofs.HeaderLaws.{header-bounds}
 use Rattle.frames.proofs.StepLaws.{due-header-ok}
@@ -14,7 +15,7 @@ use Rattle.offers.specs.Offering.{Offers, replyOf}
 use Rattle.offers.specs.declared.answer.Offered.{Offered}
 use Rattle.plain.specs.Answer.{Answer, accepted}
 use Rattle.plain.specs.Logs.{Logs, emptyLogs, historyOf}
-use Rattle.plain.specs.Offers.{Offer, frame, lentOf, offerNeeds}
+use Rattle.plain.specs.Offers.{Offer, frame, offerNeeds}
 use Rattle.plain.specs.Plain.{answer, frontAnswer, idleAnswer, ledger, lentAnswer, next}
 use Rattle.replay.specs.Inner.{Ample}
 use Rattle.settlement.specs.Tables.{Buffers}
@@ -24,15 +25,6 @@ use Rattle.sheets.specs.Sheet.{Sheet, txCount}
 use Rattle.state.proofs.LengthLaws.{lent-end, lent-next}
 use Rattle.state.specs.State.{Kept, complete, lengthsOf, sheetOf, sizesOf}
 use Rattle.state.specs.declared.ledger.Ledger.{Ledger}
-
--- an event at the end
-more-offer : {l m : Ledger} {K K' K'' : Kept} {es : List Event} (W W' : Buffers) (o : Offer) (r : Offered) → lentOf o ≡ lengthsOf K' W → Calls l K es m K' → Offers m K' W o r K'' W'
-    → Calls l K (es ++ (offered o (replyOf (r .answer)) ∷ [])) (r .ledger) K''
-more-offer W W' o r e stop p = offer o e p stop
-more-offer W W' o r e (offer o' e' q c) p = offer o' e' q (more-offer W W' o r e c p)
-more-offer W W' o r e (short o' e' few q c) p = short o' e' few q (more-offer W W' o r e c p)
-more-offer W W' o r e (reading q c) p = reading q (more-offer W W' o r e c p)
-more-offer W W' o r e (loading q c) p = loading q (more-offer W W' o r e c p)
 
 offers-more : (es : List Event) (o : Offer) (a : Answer) → offersIn (es ++ (offered o a ∷ [])) ≡ offersIn es ++ (o ∷ [])
 unfolding offersIn
@@ -50,7 +42,7 @@ logs-more S es o a = ap (foldl (next S) (emptyLogs S)) (offers-more es o a) ∙ 
 
 pub use-more : (S : Sheet) (es : List Event) (l : Ledger) (K K' : Kept) (W W' : Buffers) (bytes : List ℕ) (at : ℕ) (r : Offered) → InUse S es l K → Offers l K W (frame (lengthsOf K W) bytes at) r K' W'
     → InUse S (es ++ (offered (frame (lengthsOf K W) bytes at) (replyOf (r .answer)) ∷ [])) (r .ledger) K'
-use-more S es l K K' W W' bytes at r U p = record { first = U .first; lent = U .lent; opened = U .opened; whole = U .whole; calls = more-offer W W' (frame (lengthsOf K W) bytes at) r refl (U .calls) p }
+use-more S es l K K' W W' bytes at r U p = use-on U (offer {r = r} (frame (lengthsOf K W) bytes at) refl p stop)
 
 -- ---- lent lengths that suffice
 

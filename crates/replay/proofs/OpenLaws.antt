@@ -4,7 +4,6 @@ use Prim.Native.Nat.{_+_, _-_, _<_, _≤_, suc, ℕ}
 use borrow.Author.Tests.{eqb-false, le-ltb}
 use lib.Dec.{eqb, ltb}
 use lib.ListN.{length}
-use lib.Seq.{length-sets}
 use mathlib.Core.Bool.{false, not, true}
 use mathlib.Core.List.{List, []}
 use mathlib.Core.Path.{_∙_, _≡_, ap, refl, subst, sym}
@@ -18,8 +17,8 @@ use Rattle.frames.specs.Step.{afterCheck, afterFrame, judged, kindDue, loadingA
 use Rattle.frames.specs.declared.frame.Framed.{Framed}
 use Rattle.frames.specs.declared.step.Loading.{Loading}
 use Rattle.frames.specs.declared.step.Step.{Step}
-use Rattle.frames_load.proofs.ProperLaws.{loaded-proper}
-use Rattle.frames_load.specs.Load.{LoadStep, bodyStored, loadAnswer, loadCells, loadedCells, room}
+use Rattle.frames_load.proofs.LoadLaws.{length-stored}
+use Rattle.frames_load.specs.Load.{LoadStep, loadAnswer, loadCells, loadedCells, room}
 use Rattle.refusals.specs.declared.Checked.{Checked}
 use Rattle.refusals.specs.declared.Refusal.{Refusal}
 use Rattle.refusals.specs.declared.Refusal.the-variants.{KindNotDue, Short}
@@ -58,13 +57,7 @@ pub room-small : (l : Ledger) (cells : List ℕ) (S : Sheet) → Opening l cells
 unfolding room
 room-small l cells S o =
     by-pick (λ (n : ℕ). n ≤ 110592) (eqb (l .loading .stage) 0) (λ e. omega arith)
-    (λ e. let h = header-bounds _ _ _ _ (loaded-proper (opened o .loaded) .header (omega (arith, eqb-false (l .loading .stage) 0 e))) in omega arith)
-
-stored-length : (s : Loading) (b cells : List ℕ) → length (bodyStored s b cells) ≡ length cells
-unfolding bodyStored
-stored-length s b cells =
-    by-pick (λ (c : List ℕ). length c ≡ length cells) (eqb (kindDue s) 2) (λ e. length-sets cells 0 b)
-    (λ e. by-pick (λ (c : List ℕ). length c ≡ length cells) (eqb (kindDue s) 3) (λ u. length-sets cells _ b) (λ u. refl))
+    (λ e. let h = header-bounds _ _ _ _ (opened o .proper .header (omega (arith, eqb-false (l .loading .stage) 0 e))) in omega arith)
 
 -- ---- the state of the loop: the ledger and the cells, the offset, and what the rest of the run says from there
 
@@ -126,7 +119,7 @@ module _ (run cells cells' : List ℕ) (at : ℕ) (l : Ledger) (r : loading.Load
         record {
           so-far = sheetWith (l .loading) (bodyAt run at) (c .so-far);
           chain = subst (λ (a : Taken). Opening (r .ledger) cells' (sheetAfter (l .loading) (bodyAt run at) (c .so-far) a)) (ap (λ (x : loading.Loaded). x .answer) (done ∙ ap (afterStep l) q)) (load (c .chain) s);
-          long = rw (ap length (L .bytes .cells ∙ pick-false _ _ _ roomy ∙ ap (loadedCells (l .loading) (bodyAt run at) cells) (sym step-is ∙ q)) ∙ stored-length (l .loading) (bodyAt run at) cells) (c .long);
+          long = rw (ap length (L .bytes .cells ∙ pick-false _ _ _ roomy ∙ ap (loadedCells (l .loading) (bodyAt run at) cells) (sym step-is ∙ q)) ∙ length-stored (l .loading) (bodyAt run at) cells) (c .long);
           inside = e .1;
           fuel = c .fuel - 1;
           enough = omega (arith, c .enough, e .0);
