@@ -15,7 +15,7 @@ use Rattle.demand.proofs.Opened.{opened}
 use Rattle.demand.proofs.Replies.{keptLeft, offers, result}
 use Rattle.demand.proofs.Steps.{Beside, offer-answer, offer-beside, short-beside, short-told}
 use Rattle.demand.specs.Chain.{Calls, Event, InUse, Opening, SameFront, SameLedger, anew, offer, offered, short, stop}
-use Rattle.demand.specs.Exists.{ChainsExist, Lend, eventsFrom}
+use Rattle.demand.specs.Exists.{ChainsExist, Lends, eventsFrom}
 use Rattle.frames.proofs.StepLaws.{due-late}
 use Rattle.frames.specs.Step.{kindDue}
 use Rattle.plain.proofs.AnswerLaws.{accepted-of, lent-enough}
@@ -33,7 +33,7 @@ use Rattle.state.specs.Lengths.{leastLengths, needsList}
 use Rattle.state.specs.State.{Kept, cellsOf, complete, kept, lengthsOf, sheetOf}
 use Rattle.state.specs.declared.ledger.Ledger.{Ledger}
 use Rattle.sums.proofs.SeqLaws.{fill-room, length-fill}
-use Rattle.sums.specs.Seq.{fill}
+use Rattle.sums.specs.Seq.{All, fill}
 
 -- ---- buffers that suffice, and the ledger in others of such lengths
 
@@ -149,9 +149,9 @@ module _ (S : Sheet) (P : ProperSheet S) (l : Ledger) (K : Kept) (L : Logs) (I :
 
 -- ---- all of them
 
-calls-from : (S : Sheet) → ProperSheet S → (os : List Offer) → Lend os → (l : Ledger) (K : Kept) (L : Logs) → Beside S l K L → Suffice l K
+calls-from : (S : Sheet) → ProperSheet S → (os : List Offer) → All Lends os → (l : Ledger) (K : Kept) (L : Logs) → Beside S l K L → Suffice l K
     → (l' : Ledger) × (K' : Kept) × Calls l K (eventsFrom S L os) l' K'
-unfolding eventsFrom Lend
+unfolding eventsFrom
 calls-from S P [] lends l K L I k = (l, K, stop)
 calls-from S P (o ∷ os) ((J, W, e), lends) l K L I k =
     let g = goes S P l K L I k o J W e in

@@ -12,12 +12,14 @@ use Rattle.frames.specs.declared.frame.Framed.{Framed}
 use Rattle.offers.specs.Offering.{Offers, answerFrom, replyOf}
 use Rattle.offers.specs.declared.answer.Answer.{Answer}
 use Rattle.offers.specs.declared.answer.Offered.{Offered}
-use Rattle.plain.specs.Answer.{_then_, accepted, firstTo, noOffer, refuse, refused}
+use Rattle.plain.proofs.AnswerLaws.{then-not}
+use Rattle.plain.specs.Answer.{_then_, accepted, firstTo, isAccepted, noOffer, refuse, refused}
 use Rattle.plain.specs.Answer as plain
 use Rattle.plain.specs.Early.{earlyAnswer, earlyFrame, earlyFront}
 use Rattle.plain.specs.Logs.{Values}
 use Rattle.plain.specs.Offers.{Offer, Parsed, block, frame, lentOf, offerNeeds, offered, parse, values, wrong}
 use Rattle.plain.specs.Plain.{answer, blockAnswer, citeAnswer, frontAnswer, idleAnswer, lentAnswer, parsedAnswer, valuesAnswer}
+use Rattle.plain.specs.Report.{Query, Report, readAnswer}
 use Rattle.refusals.specs.Refusals.{refusalNumber, refusalPlace}
 use Rattle.refusals.specs.declared.Refusal.{Refusal}
 use Rattle.refusals.specs.declared.Refusal.the-variants.{BufferShort, CitedBefore, EntryAhead, EntryBack, KindNotDue, LogFull, NoInstance, NoPart, NoTransaction, NotNumberDue, OutOfRange, RankNotAbove}
@@ -30,7 +32,7 @@ use Rattle.sums.proofs.TestLaws.{by-pick}
 use Rattle.sums.specs.Test.{pick}
 
 -- the call can return it
-abbrev Reply : plain.Answer → Type 0
+abbrev pub Reply : plain.Answer → Type 0
 Reply a = (x : Answer) × (replyOf x ≡ a)
 
 fine : Reply accepted
@@ -105,6 +107,25 @@ replies l K o =
     by-pick Reply (complete l)
     (λ e. after _ _ (idle o) (after _ _ (lent _ _) (after _ _ (front (sheetOf l K) o) (judged (sheetOf l K) _ _))))
     (λ e. after _ _ (idle o) (after _ _ (lent _ _) (early-front o)))
+
+-- the answer to a call for a reading is one of them, too
+pub read-replies : (c : Bool) (S : Sheet) (r : Report) (q : Query) (lengths : List ℕ) → Reply (readAnswer c S r q lengths)
+unfolding readAnswer
+read-replies c S r q lengths = after _ _ (tested (not c) (KindNotDue 0)) (lent _ lengths)
+
+-- an offer that comes too early is not accepted
+pub early-not : (S : Sheet) (o : Offer) → isAccepted (earlyAnswer S o) ≡ false
+unfolding earlyAnswer earlyFront
+early-not S o = then-not (idleAnswer o) _ (then-not (lentAnswer (offerNeeds S) (lentOf o)) _ (by-offer o))
+  where
+    by-frame : (at : ℕ) (f : Framed) → isAccepted (earlyFrame at f) ≡ false
+    by-frame at (Framed.Whole k start end) = refl
+    by-frame at (Framed.Refused r) = refl
+    by-frame at Framed.End = refl
+
+    by-offer : (o : Offer) → isAccepted (earlyFront o) ≡ false
+    by-offer (values lengths b) = refl
+    by-offer (frame lengths bytes at) = by-frame at (frameAt bytes at)
 
 -- the cells that the call leaves, and its result
 abbrev pub cellsLeft : Ledger → Kept → Offer → Cells

@@ -1,3 +1,5 @@
--- Numbers in and out of the boundary, and its calls.
+-- Numbers in and out of the boundary, its calls, and demand 3 over lists of them (`over-boundary`).
 pub mod NumberLaws
 pub mod CallLaws
+pub mod Carried
+pub mod OverBoundary

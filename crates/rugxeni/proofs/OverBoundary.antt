@@ -1,0 +1,156 @@
+-- A list of the boundary's calls is one of demand 3's: the theorem `over-boundary`.
+-- Assumes nothing.
+use Prim.Native.Nat.{_≤_, ℕ}
+use lib.ListN.{getD, length}
+use mathlib.Core.Bool.{Bool, false}
+use mathlib.Core.List.{List, [], _∷_}
+use mathlib.Core.Path.{_∙_, _≡_, ap, ap₂, refl, subst, sym}
+use native.Mathlib.Omega.{arith}
+use Rattle.demand.proofs.Demand3.{demand-3}
+use Rattle.demand.proofs.Replies.{Reply, early-not, read-replies}
+use Rattle.demand.specs.Chain as chain
+use Rattle.demand.specs.Chain.{Calls, Event, InUse, Opening, asked, noSheet, sheetAfter}
+use Rattle.frames.specs.Frame.{bodyAt}
+use Rattle.offers.specs.Offering.{Offers, answerFrom, replyOf}
+use Rattle.offers.specs.declared.answer.Answer as answer
+use Rattle.offers.specs.declared.answer.Offered.{Offered}
+use Rattle.plain.specs.Answer.{Answer, isAccepted}
+use Rattle.plain.specs.Offers.{Offer}
+use Rattle.plain.specs.Report.{Query}
+use Rattle.readings.specs.Reading.{workLengths}
+use Rattle.refusals.specs.declared.Refusal.{Refusal}
+use Rattle.refusals.specs.declared.Refusal.the-variants.{AccountTwice, BadLength, BodyLength, BufferShort, CitedBefore, EntryAhead, EntryBack, KindNotDue, LogFull, NoInstance, NoPart, NoTransaction, NotNumberDue, OutOfRange, RankNotAbove, Short, SumsDiffer}
+use Rattle.rugxeni.proofs.Carried.{front-ledger, fresh-numbers, load-carried, offer-carried, refused-same}
+use Rattle.rugxeni.specs.Boundary.{OfferCall, ReadCall}
+use Rattle.rugxeni.specs.Numbers.{ledgerIn, numberOf, placeOf, size}
+use Rattle.rugxeni.specs.OverBoundary.{BoundaryCalls, BoundaryOpening, BoundaryUse, OverBoundary, anew, answerBy, answered, begin, early, few, few-load, few-read, load, loading, moved, offer, reading, short, stop, taken, told}
+use Rattle.settlement.specs.Tables.{Buffers}
+use Rattle.sheets.specs.Sheet.{Sheet}
+use Rattle.state.specs.State.{Kept, complete, sheetOf}
+use Rattle.state.specs.declared.ledger.Ledger.{Ledger}
+use Rattle.sums.proofs.TestLaws.{pick-false}
+use Rattle.sums.specs.Seq.{fill}
+use Rattle.sums.specs.Test.{pick}
+
+-- ---- the sheet
+
+early-same : (l : Ledger) (K : Kept) (W : Buffers) (o : Offer) (r : Offered) (K' : Kept) (W' : Buffers) → complete l ≡ false → Offers l K W o r K' W' → r .ledger ≡ l
+unfolding answerFrom
+early-same l K W o r K' W' e p =
+    refused-same l K W o r K' W' p (ap isAccepted (p .answered ∙ pick-false _ _ _ e) ∙ early-not (sheetOf l K) o)
+
+opening-over : {n cells : List ℕ} {S : Sheet} → BoundaryOpening n cells S → (size ≤ length n) × Opening (ledgerIn n) cells S
+opening-over (begin {n} {cells} h e) = (h, subst (λ (l : Ledger). Opening l cells noSheet) (sym (fresh-numbers n e)) chain.begin)
+opening-over (load {n} {cells} {run} {place} {n'} {cells'} {place'} {at} {code} {S} o h c) =
+    let (k, e) = load-carried n run at cells place code n' cells' place' h c in
+    (k, subst (λ (l : Ledger). Opening l cells' (sheetAfter (ledgerIn n .loading) (bodyAt run at) S (taken c h))) (sym e) (chain.load (opening-over o .1) (c .loads h .1)))
+opening-over (few {n} {cells} {other} {run} {place} {n'} {other'} {place'} {at} {code} {S} o u c) =
+    let (h, p) = opening-over o in
+    let (k, e) = load-carried n run at other place code n' other' place' h c in
+    (k, subst (λ (l : Ledger). Opening l cells S) (sym e) (chain.few p u (c .loads h .1)))
+opening-over (early {n} {cells} {place} {n'} {place'} {code} {S} {K} {K'} {W} {W'} {o} b u c) =
+    let (h, p) = opening-over b in
+    let (k, e) = offer-carried n K W o place code n' K' W' place' h c in
+    (k, subst (λ (l : Ledger). Opening l cells S) (sym (e ∙ early-same (ledgerIn n) K W o (c .offers h .0) K' W' u (c .offers h .1))) p)
+opening-over (moved {n} {n'} {cells} {cells'} {S} o k e f) =
+    (k, subst (λ (l : Ledger). Opening l cells' S) (sym (front-ledger n n' e)) (chain.moved (opening-over o .1) f))
+
+-- ---- the calls
+
+calls-over : {n n' : List ℕ} {K K' : Kept} {es : List Event} → BoundaryCalls n K es n' K' → size ≤ length n → (size ≤ length n') × Calls (ledgerIn n) K es (ledgerIn n') K'
+calls-over stop u = (u, chain.stop)
+calls-over (offer {n} {n'} {n''} {place} {place'} {code} {K} {K'} {K''} {es} {W} {W'} {o} h e c d) u =
+    let (k, q) = offer-carried n K W o place code n' K' W' place' h c in
+    let (v, D) = calls-over d k in
+    (v, chain.offer {r = c .offers h .0} o e (c .offers h .1) (subst (λ (l : Ledger). Calls l K' es (ledgerIn n'') K'') q D))
+calls-over (short {n} {n'} {n''} {place} {place'} {code} {K} {J} {J'} {K'} {es} {W} {W'} {o} h e s c d) u =
+    let (k, q) = offer-carried n J W o place code n' J' W' place' h c in
+    let (v, D) = calls-over d k in
+    (v, chain.short {r = c .offers h .0} o e s (c .offers h .1) (subst (λ (l : Ledger). Calls l K es (ledgerIn n'') K') q D))
+calls-over (reading h c d) u = let (v, D) = calls-over d u in (v, chain.reading (c .reads h .2) D)
+calls-over (few-read h J s c d) u = let (v, D) = calls-over d u in (v, chain.few-read J s (c .reads h .2) D)
+calls-over (loading {n} {n'} {n''} {run} {place} {cells} {place'} {at} {code} {K} {K'} {es} c d) u =
+    let (k, q) = load-carried n run at (K .sheet) place code n' cells place' u c in
+    let (v, D) = calls-over d k in
+    (v, chain.loading {r = c .loads u .0} (c .loads u .1) (subst (λ (l : Ledger). Calls l (record { sheet = cells; ranks = K .ranks; cuts = K .cuts; cites = K .cites; good = K .good }) es (ledgerIn n'') K') q D))
+calls-over (few-load {n} {n'} {n''} {run} {place} {other} {other'} {place'} {at} {code} {K} {K'} {es} c d) u =
+    let (k, q) = load-carried n run at other place code n' other' place' u c in
+    let (v, D) = calls-over d k in
+    (v, chain.few-load {r = c .loads u .0} (c .loads u .1) (subst (λ (l : Ledger). Calls l K es (ledgerIn n'') K') q D))
+calls-over (anew {n} {n'} {n''} {K} {J} {K'} {es} k e s d) u =
+    let (v, D) = calls-over d k in
+    (v, chain.anew s (subst (λ (l : Ledger). Calls l J es (ledgerIn n'') K') (front-ledger n n' e) D))
+
+used : (S : Sheet) (es : List Event) (n : List ℕ) (K : Kept) → BoundaryUse S es n K → (size ≤ length n) × InUse S es (ledgerIn n) K
+used S es n K U =
+    let (h, o) = opening-over (U .opened) in
+    let (k, c) = calls-over (U .calls) h in
+    (k, record { first = ledgerIn (U .first); lent = U .lent; opened = o; whole = U .whole; calls = c })
+
+-- ---- what the caller sees
+
+refusal-by : (r : Refusal) → answerBy (numberOf (replyOf (answer.Answer.Refused r))) (placeOf (replyOf (answer.Answer.Refused r))) ≡ replyOf (answer.Answer.Refused r)
+unfolding answerBy pick
+refusal-by (Short at) = refl
+refusal-by (BadLength at) = refl
+refusal-by (KindNotDue at) = refl
+refusal-by (BodyLength at) = refl
+refusal-by (OutOfRange at) = refl
+refusal-by (AccountTwice at) = refl
+refusal-by (SumsDiffer at) = refl
+refusal-by NoInstance = refl
+refusal-by (NotNumberDue due) = refl
+refusal-by (RankNotAbove last) = refl
+refusal-by (EntryBack entry) = refl
+refusal-by (EntryAhead entry) = refl
+refusal-by (NoTransaction k) = refl
+refusal-by (NoPart k) = refl
+refusal-by (CitedBefore k) = refl
+refusal-by (BufferShort least) = refl
+refusal-by LogFull = refl
+
+reply-by : (x : answer.Answer) → answerBy (numberOf (replyOf x)) (placeOf (replyOf x)) ≡ replyOf x
+unfolding answerBy pick
+reply-by answer.Answer.Accepted = refl
+reply-by (answer.Answer.Refused r) = refusal-by r
+reply-by answer.Answer.NoByte = refl
+
+-- two places hold what is told
+told-two : (p v : ℕ) (l : List ℕ) → 2 ≤ length l → (getD (fill (p ∷ v ∷ []) l) 0 0 ≡ p) × (getD (fill (p ∷ v ∷ []) l) 1 0 ≡ v)
+unfolding fill
+told-two p v [] h = absurd (omega arith)
+told-two p v (x ∷ []) h = absurd (omega arith)
+told-two p v (x ∷ y ∷ l) h = (refl, refl)
+
+module _ (a : Answer) (v : ℕ) (x : Reply a) (place : List ℕ) (code : ℕ) (place' : List ℕ) (two : 2 ≤ length place) (e : code ≡ numberOf a) (w : place' ≡ fill (placeOf a ∷ v ∷ []) place) where
+  seen-answer : a ≡ answerBy code (getD place' 0 0)
+  seen-answer =
+      let at : getD place' 0 0 ≡ placeOf a = ap (λ (l : List ℕ). getD l 0 0) w ∙ told-two (placeOf a) v place two .0 in
+      sym (ap₂ answerBy e at ∙ subst (λ (b : Answer). answerBy (numberOf b) (placeOf b) ≡ b) (x .1) (reply-by (x .0)))
+
+  seen-value : v ≡ getD place' 1 0
+  seen-value = sym (ap (λ (l : List ℕ). getD l 1 0) w ∙ told-two (placeOf a) v place two .1)
+
+seen-offer : {n : List ℕ} {K : Kept} {W : Buffers} {o : Offer} {place : List ℕ} {code : ℕ} {n' : List ℕ} {K' : Kept} {W' : Buffers} {place' : List ℕ}
+    → (c : OfferCall n K W o place code n' K' W' place') (h : size ≤ length n) → 2 ≤ length place → answered c h ≡ answerBy code (getD place' 0 0)
+seen-offer {place = place} {code = code} {place' = place'} c h two =
+    let s = c .offers h .3 in
+    seen-answer (answered c h) 0 (c .offers h .0 .answer, refl) place code place' two (s .returned) (s .written)
+
+seen-reading : {n : List ℕ} {K : Kept} {W : Buffers} {q : Query} {outs : List (List ℕ)} {place : List ℕ} {code : ℕ} {W' : Buffers} {outs' : List (List ℕ)} {place' : List ℕ}
+    → (c : ReadCall n K W q outs place code W' outs' place') (h : size ≤ length n) → 2 ≤ length place
+    → told c h ≡ asked (record { query = q; work = workLengths q K W; lists = outs; answer = answerBy code (getD place' 0 0); value = getD place' 1 0; filled = outs' })
+seen-reading {K = K} {W = W} {q = q} {outs = outs} {place = place} {code = code} {outs' = outs'} {place' = place'} c h two =
+    let (a, v, R, s) = c .reads h in
+    let x : Reply a = subst Reply (sym (R .tells .answered)) (read-replies _ _ _ q _) in
+    ap₂ (λ (b : Answer) (w : ℕ). asked (record { query = q; work = workLengths q K W; lists = outs; answer = b; value = w; filled = outs' }))
+    (seen-answer a v x place code place' two (s .returned) (s .written)) (seen-value a v x place code place' two (s .returned) (s .written))
+
+pub over-boundary : OverBoundary
+over-boundary = record {
+  in-use = used;
+  one = λ S es n K U. demand-3 .one S es (ledgerIn n) K (used S es n K U .1);
+  two = λ S es es' n n' K K' U U'. demand-3 .two S es es' (ledgerIn n) (ledgerIn n') K K' (used S es n K U .1) (used S es' n' K' U' .1);
+  seen = seen-offer;
+  seen-read = seen-reading;
+}
