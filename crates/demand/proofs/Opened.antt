@@ -10,7 +10,8 @@ use mathlib.Core.Logic.{_⊎_, inl, inr}
 use mathlib.Core.Path.{_∙_, _≡_, ap, refl, subst, sym}
 use native.Mathlib.Omega.{arith}
 use Rattle.demand.proofs.Fronts.{sheet-front}
-use Rattle.demand.specs.Chain.{Opening, SameFront, begin, few, load, moved, sheetAfter, sheetWith}
+use Rattle.demand.proofs.Replies.{early-same}
+use Rattle.demand.specs.Chain.{Opening, SameFront, begin, early, few, load, moved, sheetAfter, sheetWith}
 use Rattle.frames.proofs.StepLaws.{due-four, due-late, judged-kind, took-judged}
 use Rattle.frames.specs.Frame.{bodyAt, bodyOf, frameAt}
 use Rattle.frames.specs.Step.{headerLoaded, kindDue, stepAt}
@@ -136,6 +137,7 @@ unfolding After
 opened (begin {cells = cells}) = record { proper = loaded-proper (fresh {s = freshLedger .loading} {cells = cells} refl); empty = refl; said = λ u. absurd (omega arith); room = λ u. absurd (omega arith) }
 opened (load {l} {cells} {cells'} {run} {at} {S} {r} o s) = by-complete l cells cells' run at S r (opened o) s (complete l) refl
 opened (few {l} {cells} {other} {other'} {run} {at} {S} {r} o h s) = rw (few-same l other other' run at r h s) (opened o)
+opened (early {l} {cells} {S} {K} {K'} {W} {W'} {o} {r} p e s) = rw (early-same l K W o r K' W' e s) (opened p)
 opened (moved {l} {cells} {cells'} {S} o e) = elsewhere l cells cells' S (opened o) e
 
 -- the loaded sheet is the one that the ledger's numbers read from the cells

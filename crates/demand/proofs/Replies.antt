@@ -5,10 +5,11 @@ use lib.Dec.{eqb, leb, ltb}
 use lib.ListN.{getD, length}
 use mathlib.Core.Bool.{Bool, false, not, true}
 use mathlib.Core.List.{List, [], _∷_}
-use mathlib.Core.Path.{_≡_, refl}
+use mathlib.Core.Path.{_∙_, _≡_, ap, ap₂, refl}
 use Rattle.escrow.specs.Outcome.{History}
 use Rattle.frames.specs.Frame.{frameAt}
 use Rattle.frames.specs.declared.frame.Framed.{Framed}
+use Rattle.frames.specs.declared.step.Loading.{Loading}
 use Rattle.offers.specs.Offering.{Offers, answerFrom, replyOf}
 use Rattle.offers.specs.declared.answer.Answer.{Answer}
 use Rattle.offers.specs.declared.answer.Offered.{Offered}
@@ -28,7 +29,7 @@ use Rattle.sheets.specs.Sheet.{Sheet}
 use Rattle.state.specs.Cells.{Cells, cellsOffered}
 use Rattle.state.specs.State.{Kept, cellsOf, complete, kept, sheetOf}
 use Rattle.state.specs.declared.ledger.Ledger.{Ledger}
-use Rattle.sums.proofs.TestLaws.{by-pick}
+use Rattle.sums.proofs.TestLaws.{by-pick, pick-false}
 use Rattle.sums.specs.Test.{pick}
 
 -- the call can return it
@@ -126,6 +127,16 @@ early-not S o = then-not (idleAnswer o) _ (then-not (lentAnswer (offerNeeds S) (
     by-offer : (o : Offer) → isAccepted (earlyFront o) ≡ false
     by-offer (values lengths b) = refl
     by-offer (frame lengths bytes at) = by-frame at (frameAt bytes at)
+
+-- an offer that is not accepted leaves the ledger as it was
+pub refused-same : (l : Ledger) (K : Kept) (W : Buffers) (o : Offer) (r : Offered) (K' : Kept) (W' : Buffers) → Offers l K W o r K' W' → isAccepted (answerFrom l K o) ≡ false → r .ledger ≡ l
+unfolding cellsOffered
+refused-same l K W o r K' W' p e =
+    ap₂ {C = Ledger} (λ (s : Loading) (h : List ℕ). record { loading = s; heights = h }) (p .loading) (ap (λ (C : Cells). C .heights) (p .cells ∙ pick-false _ _ _ e))
+
+pub early-same : (l : Ledger) (K : Kept) (W : Buffers) (o : Offer) (r : Offered) (K' : Kept) (W' : Buffers) → complete l ≡ false → Offers l K W o r K' W' → r .ledger ≡ l
+unfolding answerFrom
+early-same l K W o r K' W' e p = refused-same l K W o r K' W' p (ap isAccepted (pick-false _ _ _ e) ∙ early-not (sheetOf l K) o)
 
 -- the cells that the call leaves, and its result
 abbrev pub cellsLeft : Ledger → Kept → Offer → Cells

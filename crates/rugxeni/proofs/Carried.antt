@@ -6,9 +6,10 @@ use lib.ListN.{List·getD-append, getD, getD-replicate, length, replicate, take}
 use lib.Seq.{getD-take}
 use mathlib.Core.Bool.{Bool, false, true}
 use mathlib.Core.List.{List}
-use mathlib.Core.Path.{_∙_, _≡_, ap, ap₂, refl, sym}
+use mathlib.Core.Path.{_∙_, _≡_, ap, refl, sym}
 use native.Mathlib.Omega.{arith}
 use Rattle.demand.proofs.Lengths.{offered-lengths}
+use Rattle.demand.proofs.Replies.{refused-same}
 use Rattle.demand.specs.Chain.{SameFront}
 use Rattle.frames.proofs.StepLaws.{took-judged}
 use Rattle.frames.specs.Step.{headerLoaded, loadingAfter}
@@ -25,13 +26,13 @@ use Rattle.rugxeni.proofs.NumberLaws.{ledger-made, number-late}
 use Rattle.rugxeni.specs.Boundary.{LoadCall, OfferCall}
 use Rattle.rugxeni.specs.Numbers.{isTaken, ledgerIn, numbersOf, size}
 use Rattle.settlement.specs.Tables.{Buffers}
-use Rattle.state.specs.Cells.{Cells, cellsOffered}
+use Rattle.state.specs.Cells.{Cells}
 use Rattle.state.specs.Loading.{LoadsSheet, afterStep}
 use Rattle.state.specs.State.{Kept, cellsOf, complete, freshLedger, sheetOf}
 use Rattle.state.specs.declared.ledger.Ledger.{Ledger}
 use Rattle.state.specs.declared.load.Loaded.{Loaded}
 use Rattle.sums.proofs.SeqLaws.{fill-room, length-fill, length-tabulate, tabulate-ext, tabulate-is}
-use Rattle.sums.proofs.TestLaws.{by-pick, pick-false}
+use Rattle.sums.proofs.TestLaws.{by-pick}
 use Rattle.sums.specs.Seq.{fill}
 use Rattle.sums.specs.Test.{pick}
 
@@ -89,12 +90,6 @@ carried n n' l false k h e s f = (omega (arith, ap length k), ap ledgerIn k ∙ 
 
 -- ---- an offer
 
--- a refused one leaves the ledger as it was
-pub refused-same : (l : Ledger) (K : Kept) (W : Buffers) (o : Offer) (r : Offered) (K' : Kept) (W' : Buffers) → Offers l K W o r K' W' → isAccepted (replyOf (r .answer)) ≡ false → r .ledger ≡ l
-unfolding cellsOffered
-refused-same l K W o r K' W' p e =
-    ap₂ {C = Ledger} (λ (s : Loading) (h : List ℕ). record { loading = s; heights = h }) (p .loading) (ap (λ (C : Cells). C .heights) (p .cells ∙ pick-false _ _ _ (ap isAccepted (sym (p .answered)) ∙ e)))
-
 pub offer-carried : (n : List ℕ) (K : Kept) (W : Buffers) (o : Offer) (place : List ℕ) (code : ℕ) (n' : List ℕ) (K' : Kept) (W' : Buffers) (place' : List ℕ)
     → (h : size ≤ length n) (c : OfferCall n K W o place code n' K' W' place') → Carries n' (c .offers h .0 .ledger)
 offer-carried n K W o place code n' K' W' place' h c =
@@ -102,7 +97,7 @@ offer-carried n K W o place code n' K' W' place' h c =
     let long : length (r .ledger .heights) ≡ 16 =
     ap (λ (C : Cells). length (C .heights)) (p .cells) ∙ offered-lengths (sheetOf (ledgerIn n) K) (answerFrom (ledgerIn n) K o) (offers.offered (sheetOf (ledgerIn n) K) o) (cellsOf (ledgerIn n) K) .heights ∙ read-heights n in
     let low : r .ledger .loading .stage ≤ 255 = rw (p .loading) (read-stage n) in
-    carried n n' (r .ledger) (isAccepted (replyOf (r .answer))) k h long low (λ e. refused-same (ledgerIn n) K W o r K' W' p e)
+    carried n n' (r .ledger) (isAccepted (replyOf (r .answer))) k h long low (λ e. refused-same (ledgerIn n) K W o r K' W' p (ap isAccepted (sym (p .answered)) ∙ e))
 
 -- ---- loading
 

@@ -2,42 +2,34 @@
 -- Assumes nothing.
 use Prim.Native.Nat.{_≤_, ℕ}
 use lib.ListN.{getD, length}
-use mathlib.Core.Bool.{Bool, false}
 use mathlib.Core.List.{List, [], _∷_}
 use mathlib.Core.Path.{_∙_, _≡_, ap, ap₂, refl, subst, sym}
 use native.Mathlib.Omega.{arith}
 use Rattle.demand.proofs.Demand3.{demand-3}
-use Rattle.demand.proofs.Replies.{Reply, early-not, read-replies}
+use Rattle.demand.proofs.Replies.{Reply, read-replies}
 use Rattle.demand.specs.Chain as chain
 use Rattle.demand.specs.Chain.{Calls, Event, InUse, Opening, asked, noSheet, sheetAfter}
 use Rattle.frames.specs.Frame.{bodyAt}
-use Rattle.offers.specs.Offering.{Offers, answerFrom, replyOf}
+use Rattle.offers.specs.Offering.{replyOf}
 use Rattle.offers.specs.declared.answer.Answer as answer
-use Rattle.offers.specs.declared.answer.Offered.{Offered}
-use Rattle.plain.specs.Answer.{Answer, isAccepted}
+use Rattle.plain.specs.Answer.{Answer}
 use Rattle.plain.specs.Offers.{Offer}
 use Rattle.plain.specs.Report.{Query}
 use Rattle.readings.specs.Reading.{workLengths}
 use Rattle.refusals.specs.declared.Refusal.{Refusal}
 use Rattle.refusals.specs.declared.Refusal.the-variants.{AccountTwice, BadLength, BodyLength, BufferShort, CitedBefore, EntryAhead, EntryBack, KindNotDue, LogFull, NoInstance, NoPart, NoTransaction, NotNumberDue, OutOfRange, RankNotAbove, Short, SumsDiffer}
-use Rattle.rugxeni.proofs.Carried.{front-ledger, fresh-numbers, load-carried, offer-carried, refused-same}
+use Rattle.rugxeni.proofs.Carried.{front-ledger, fresh-numbers, load-carried, offer-carried}
 use Rattle.rugxeni.specs.Boundary.{OfferCall, ReadCall}
 use Rattle.rugxeni.specs.Numbers.{ledgerIn, numberOf, placeOf, size}
 use Rattle.rugxeni.specs.OverBoundary.{BoundaryCalls, BoundaryOpening, BoundaryUse, OverBoundary, anew, answerBy, answered, begin, early, few, few-load, few-read, load, loading, moved, offer, reading, short, stop, taken, told}
 use Rattle.settlement.specs.Tables.{Buffers}
 use Rattle.sheets.specs.Sheet.{Sheet}
-use Rattle.state.specs.State.{Kept, complete, sheetOf}
+use Rattle.state.specs.State.{Kept}
 use Rattle.state.specs.declared.ledger.Ledger.{Ledger}
-use Rattle.sums.proofs.TestLaws.{pick-false}
 use Rattle.sums.specs.Seq.{fill}
 use Rattle.sums.specs.Test.{pick}
 
 -- ---- the sheet
-
-early-same : (l : Ledger) (K : Kept) (W : Buffers) (o : Offer) (r : Offered) (K' : Kept) (W' : Buffers) → complete l ≡ false → Offers l K W o r K' W' → r .ledger ≡ l
-unfolding answerFrom
-early-same l K W o r K' W' e p =
-    refused-same l K W o r K' W' p (ap isAccepted (p .answered ∙ pick-false _ _ _ e) ∙ early-not (sheetOf l K) o)
 
 opening-over : {n cells : List ℕ} {S : Sheet} → BoundaryOpening n cells S → (size ≤ length n) × Opening (ledgerIn n) cells S
 opening-over (begin {n} {cells} h e) = (h, subst (λ (l : Ledger). Opening l cells noSheet) (sym (fresh-numbers n e)) chain.begin)
@@ -51,7 +43,7 @@ opening-over (few {n} {cells} {other} {run} {place} {n'} {other'} {place'} {at} 
 opening-over (early {n} {cells} {place} {n'} {place'} {code} {S} {K} {K'} {W} {W'} {o} b u c) =
     let (h, p) = opening-over b in
     let (k, e) = offer-carried n K W o place code n' K' W' place' h c in
-    (k, subst (λ (l : Ledger). Opening l cells S) (sym (e ∙ early-same (ledgerIn n) K W o (c .offers h .0) K' W' u (c .offers h .1))) p)
+    (k, subst (λ (l : Ledger). Opening l cells S) (sym e) (chain.early p u (c .offers h .1)))
 opening-over (moved {n} {n'} {cells} {cells'} {S} o k e f) =
     (k, subst (λ (l : Ledger). Opening l cells' S) (sym (front-ledger n n' e)) (chain.moved (opening-over o .1) f))
 
