@@ -59,7 +59,9 @@ kept-alike S H H' a k = record {
 
 module _ (l : Ledger) (K J : Kept) (f : SameLedger l K J) where
   tall : (j : ℕ) → j < l .loading .m → heightsIn (cellsOf l K) j ≡ heightsIn (cellsOf l J) j
-  tall j u = usable-other (rankIn (J .ranks)) (rankIn (K .ranks)) (countIn (l .heights)) (countIn (l .heights)) j (λ n v. sym (front-at (128 * l .loading .m) (J .ranks) (K .ranks) (j * 128 + n) 0 (f .ranks) (omega arith))) refl
+  tall j u =
+      usable-other (rankIn (J .ranks)) (rankIn (K .ranks)) (countIn (l .heights)) (countIn (l .heights)) j
+      (λ n v. sym (front-at (128 * l .loading .m) (J .ranks) (K .ranks) (j * 128 + n) 0 (f .ranks) (omega arith))) refl
 
   alike : l .loading .m ≤ 16 → Alike (l .loading .m) (pastIn (cellsOf l K)) (pastIn (cellsOf l J))
   unfolding pastIn historyIn

@@ -81,8 +81,13 @@ into-same l K J k j = record {
 into-lengths : (l : Ledger) (K J : Kept) (W : Buffers) → lengthsOf (into l K J) W ≡ lengthsOf J W
 unfolding into over
 into-lengths l K J W =
-    rw (length-fill (take (leastLengths l .sheet) (K .sheet)) (J .sheet), length-fill (take (leastLengths l .ranks) (K .ranks)) (J .ranks), length-fill (take (leastLengths l .cuts) (K .cuts)) (J .cuts),
-    length-fill (take (leastLengths l .cites) (K .cites)) (J .cites), length-fill (take (leastLengths l .good) (K .good)) (J .good))
+    rw (
+      length-fill (take (leastLengths l .sheet) (K .sheet)) (J .sheet),
+      length-fill (take (leastLengths l .ranks) (K .ranks)) (J .ranks),
+      length-fill (take (leastLengths l .cuts) (K .cuts)) (J .cuts),
+      length-fill (take (leastLengths l .cites) (K .cites)) (J .cites),
+      length-fill (take (leastLengths l .good) (K .good)) (J .good),
+    )
     refl
 
 into-suffice : (l : Ledger) (K J : Kept) → Suffice l J → Suffice l (into l K J)

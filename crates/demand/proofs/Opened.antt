@@ -91,7 +91,12 @@ module _ (l : Ledger) (cells cells' run : List ℕ) (at : ℕ) (S : Sheet) (r : 
 
   by-step : complete l ≡ false → (t : Step) → LoadStep run at (l .loading) cells cells' t → r ≡ afterStep l t → After
   unfolding After
-  by-step c (Step.Took n e) L q = rw q (record { proper = load-proper run at (l .loading) cells cells' n e (L .bytes) (p .proper); empty = p .empty; said = added c (Step.Took n e) L n e refl; room = load-room run at (l .loading) cells cells' n e (L .bytes) })
+  by-step c (Step.Took n e) L q = rw q (record {
+    proper = load-proper run at (l .loading) cells cells' n e (L .bytes) (p .proper);
+    empty = p .empty;
+    said = added c (Step.Took n e) L n e refl;
+    room = load-room run at (l .loading) cells cells' n e (L .bytes);
+  })
   by-step c (Step.Refused x) L q = rw (q, untaken-cells run at (l .loading) cells cells' (Step.Refused x) (L .bytes) (refused-untaken x)) p
   by-step c Step.End L q = rw (q, untaken-cells run at (l .loading) cells cells' Step.End (L .bytes) end-untaken) p
 
@@ -134,7 +139,12 @@ module _ (l : Ledger) (cells cells' : List ℕ) (S : Sheet) (p : Opened l cells 
 
 pub opened : {l : Ledger} {cells : List ℕ} {S : Sheet} → Opening l cells S → Opened l cells S
 unfolding After
-opened (begin {cells = cells}) = record { proper = loaded-proper (fresh {s = freshLedger .loading} {cells = cells} refl); empty = refl; said = λ u. absurd (omega arith); room = λ u. absurd (omega arith) }
+opened (begin {cells = cells}) = record {
+  proper = loaded-proper (fresh {s = freshLedger .loading} {cells = cells} refl);
+  empty = refl;
+  said = λ u. absurd (omega arith);
+  room = λ u. absurd (omega arith);
+}
 opened (load {l} {cells} {cells'} {run} {at} {S} {r} o s) = by-complete l cells cells' run at S r (opened o) s (complete l) refl
 opened (few {l} {cells} {other} {other'} {run} {at} {S} {r} o h s) = rw (few-same l other other' run at r h s) (opened o)
 opened (early {l} {cells} {S} {K} {K'} {W} {W'} {o} {r} p e s) = rw (early-same l K W o r K' W' e s) (opened p)

@@ -48,18 +48,21 @@ sheetAfter s b S Taken.Complete = S
 abbrev pub SameFront : ℕ → List ℕ → List ℕ → Type 0
 SameFront n x y = take n x ≡ take n y
 
--- The ledger, the cells of its sheet, and the sheet that the frames have said so far, from a fresh ledger on. The cells may hold anything at first, and each call may have bytes of its own
+-- The ledger, the cells of its sheet, and the sheet that the frames have said so far, from a fresh ledger on.
+-- The cells may hold anything at first, and each call may have bytes of its own
 pub data Opening : Ledger → List ℕ → Sheet → Type 0 where
   begin : {cells : List ℕ} → Opening freshLedger cells noSheet
   load : {l : Ledger} {cells cells' run : List ℕ} {at : ℕ} {S : Sheet} {r : Loaded} → Opening l cells S → LoadsSheet l run at cells cells' r
       → Opening (r .ledger) cells' (sheetAfter (l .loading) (bodyAt run at) S (r .answer))
   -- the same with other cells than the kept ones, too short for the sheet
-  few : {l : Ledger} {cells other other' run : List ℕ} {at : ℕ} {S : Sheet} {r : Loaded} → Opening l cells S → length other < room (l .loading) → LoadsSheet l run at other other' r
-      → Opening (r .ledger) cells S
+  few : {l : Ledger} {cells other other' run : List ℕ} {at : ℕ} {S : Sheet} {r : Loaded} → Opening l cells S → length other < room (l .loading)
+      → LoadsSheet l run at other other' r → Opening (r .ledger) cells S
   -- an offer, with any buffers, that comes too early
-  early : {l : Ledger} {cells : List ℕ} {S : Sheet} {K K' : Kept} {W W' : Buffers} {o : Offer} {r : Offered} → Opening l cells S → complete l ≡ false → Offers l K W o r K' W' → Opening (r .ledger) cells S
+  early : {l : Ledger} {cells : List ℕ} {S : Sheet} {K K' : Kept} {W W' : Buffers} {o : Offer} {r : Offered} → Opening l cells S → complete l ≡ false
+      → Offers l K W o r K' W' → Opening (r .ledger) cells S
   -- the sheet is kept in other cells from here on: before the balances they hold nothing, then as much as docs/BUFFERS.md says
-  moved : {l : Ledger} {cells cells' : List ℕ} {S : Sheet} → Opening l cells S → (2 ≤ l .loading .stage → SameFront (leastLengths l .sheet) cells' cells) → Opening l cells' S
+  moved : {l : Ledger} {cells cells' : List ℕ} {S : Sheet} → Opening l cells S → (2 ≤ l .loading .stage → SameFront (leastLengths l .sheet) cells' cells)
+      → Opening l cells' S
 
 -- ---- calls
 

@@ -77,25 +77,29 @@ module _ (l : Ledger) (n : List ℕ) (sixteen : length (l .heights) ≡ 16) (eno
   numbers-back low =
       let at = number-back in
       let stage : l .loading .stage ≡ min (getD (fill (numbersOf l) n) 4 0) 255 = omega (arith, at 4 (omega arith)) in
-      sym (ledger-made (fill (numbersOf l) n) _ _ _ _ _ _ (l .heights) (sym (at 0 (omega arith))) (sym (at 1 (omega arith))) (sym (at 2 (omega arith))) (sym (at 3 (omega arith))) stage (sym (at 5 (omega arith))) heights-back)
+      sym (ledger-made (fill (numbersOf l) n) _ _ _ _ _ _ (l .heights) (sym (at 0 (omega arith))) (sym (at 1 (omega arith))) (sym (at 2 (omega arith))) (sym (at 3 (omega arith)))
+      stage (sym (at 5 (omega arith))) heights-back)
 
 -- the numbers afterwards are enough and say the ledger l
 abbrev pub Carries : List ℕ → Ledger → Type 0
 Carries n l = (size ≤ length n) × (ledgerIn n ≡ l)
 
-carried : (n n' : List ℕ) (l : Ledger) (b : Bool) → n' ≡ pick b (fill (numbersOf l) n) n → size ≤ length n → length (l .heights) ≡ 16 → l .loading .stage ≤ 255 → (b ≡ false → l ≡ ledgerIn n) → Carries n' l
+carried : (n n' : List ℕ) (l : Ledger) (b : Bool) → n' ≡ pick b (fill (numbersOf l) n) n → size ≤ length n → length (l .heights) ≡ 16 → l .loading .stage ≤ 255
+    → (b ≡ false → l ≡ ledgerIn n) → Carries n' l
 unfolding pick
 carried n n' l true k h e s f = (omega (arith, ap length k ∙ length-fill (numbersOf l) n), ap ledgerIn k ∙ numbers-back l n e h s)
 carried n n' l false k h e s f = (omega (arith, ap length k), ap ledgerIn k ∙ sym (f refl))
 
 -- ---- an offer
 
-pub offer-carried : (n : List ℕ) (K : Kept) (W : Buffers) (o : Offer) (place : List ℕ) (code : ℕ) (n' : List ℕ) (K' : Kept) (W' : Buffers) (place' : List ℕ)
-    → (h : size ≤ length n) (c : OfferCall n K W o place code n' K' W' place') → Carries n' (c .offers h .0 .ledger)
-offer-carried n K W o place code n' K' W' place' h c =
+pub offer-carried : (n : List ℕ) (K : Kept) (W : Buffers) (o : Offer) (told : List ℕ) (code : ℕ) (n' : List ℕ) (K' : Kept) (W' : Buffers) (told' : List ℕ)
+    → (h : size ≤ length n) (c : OfferCall n K W o told code n' K' W' told') → Carries n' (c .offers h .0 .ledger)
+offer-carried n K W o told code n' K' W' told' h c =
     let (r, p, k, s) = c .offers h in
     let long : length (r .ledger .heights) ≡ 16 =
-    ap (λ (C : Cells). length (C .heights)) (p .cells) ∙ offered-lengths (sheetOf (ledgerIn n) K) (answerFrom (ledgerIn n) K o) (offers.offered (sheetOf (ledgerIn n) K) o) (cellsOf (ledgerIn n) K) .heights ∙ read-heights n in
+    ap (λ (C : Cells). length (C .heights)) (p .cells)
+    ∙ offered-lengths (sheetOf (ledgerIn n) K) (answerFrom (ledgerIn n) K o) (offers.offered (sheetOf (ledgerIn n) K) o) (cellsOf (ledgerIn n) K) .heights
+    ∙ read-heights n in
     let low : r .ledger .loading .stage ≤ 255 = rw (p .loading) (read-stage n) in
     carried n n' (r .ledger) (isAccepted (replyOf (r .answer))) k h long low (λ e. refused-same (ledgerIn n) K W o r K' W' p (ap isAccepted (sym (p .answered)) ∙ e))
 
@@ -130,8 +134,9 @@ load-left l run at before after r p = go (complete l) refl
     go true e = rw (p .whole e .0) (record { long = refl; low = λ h. h; same = λ e. refl })
     go false e = let (t, L, q) = p .loads e in rw q (by-step l run at before after t L)
 
-pub load-carried : (n run : List ℕ) (at : ℕ) (sheet place : List ℕ) (code : ℕ) (n' sheet' place' : List ℕ) → (h : size ≤ length n) (c : LoadCall n run at sheet place code n' sheet' place') → Carries n' (c .loads h .0 .ledger)
-load-carried n run at sheet place code n' sheet' place' h c =
+pub load-carried : (n run : List ℕ) (at : ℕ) (sheet told : List ℕ) (code : ℕ) (n' sheet' told' : List ℕ)
+    → (h : size ≤ length n) (c : LoadCall n run at sheet told code n' sheet' told') → Carries n' (c .loads h .0 .ledger)
+load-carried n run at sheet told code n' sheet' told' h c =
     let (r, p, k, s) = c .loads h in
     let f = load-left (ledgerIn n) run at sheet sheet' r p in
     carried n n' (r .ledger) (isTaken (r .answer)) k h (f .long ∙ read-heights n) (f .low (read-stage n)) (f .same)

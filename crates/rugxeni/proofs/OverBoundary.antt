@@ -21,10 +21,10 @@ use Rattle.refusals.specs.declared.Refusal.the-variants.{AccountTwice, BadLengt
 use Rattle.rugxeni.proofs.Carried.{front-ledger, fresh-numbers, load-carried, offer-carried}
 use Rattle.rugxeni.specs.Boundary.{OfferCall, ReadCall}
 use Rattle.rugxeni.specs.Numbers.{ledgerIn, numberOf, placeOf, size}
-use Rattle.rugxeni.specs.OverBoundary.{BoundaryCalls, BoundaryOpening, BoundaryUse, OverBoundary, anew, answerBy, answered, begin, early, few, few-load, few-read, load, loading, moved, offer, reading, short, stop, taken, told}
+use Rattle.rugxeni.specs.OverBoundary.{BoundaryCalls, BoundaryOpening, BoundaryUse, OverBoundary, anew, answerBy, answered, begin, early, few, few-load, few-read, load, loading, moved, offer, reading, short, reads, stop, taken}
 use Rattle.settlement.specs.Tables.{Buffers}
 use Rattle.sheets.specs.Sheet.{Sheet}
-use Rattle.state.specs.State.{Kept}
+use Rattle.state.specs.State.{Kept, kept}
 use Rattle.state.specs.declared.ledger.Ledger.{Ledger}
 use Rattle.sums.specs.Seq.{fill}
 use Rattle.sums.specs.Test.{pick}
@@ -33,16 +33,16 @@ use Rattle.sums.specs.Test.{pick}
 
 opening-over : {n cells : List ℕ} {S : Sheet} → BoundaryOpening n cells S → (size ≤ length n) × Opening (ledgerIn n) cells S
 opening-over (begin {n} {cells} h e) = (h, subst (λ (l : Ledger). Opening l cells noSheet) (sym (fresh-numbers n e)) chain.begin)
-opening-over (load {n} {cells} {run} {place} {n'} {cells'} {place'} {at} {code} {S} o h c) =
-    let (k, e) = load-carried n run at cells place code n' cells' place' h c in
+opening-over (load {n} {cells} {run} {told} {n'} {cells'} {told'} {at} {code} {S} o h c) =
+    let (k, e) = load-carried n run at cells told code n' cells' told' h c in
     (k, subst (λ (l : Ledger). Opening l cells' (sheetAfter (ledgerIn n .loading) (bodyAt run at) S (taken c h))) (sym e) (chain.load (opening-over o .1) (c .loads h .1)))
-opening-over (few {n} {cells} {other} {run} {place} {n'} {other'} {place'} {at} {code} {S} o u c) =
+opening-over (few {n} {cells} {other} {run} {told} {n'} {other'} {told'} {at} {code} {S} o u c) =
     let (h, p) = opening-over o in
-    let (k, e) = load-carried n run at other place code n' other' place' h c in
+    let (k, e) = load-carried n run at other told code n' other' told' h c in
     (k, subst (λ (l : Ledger). Opening l cells S) (sym e) (chain.few p u (c .loads h .1)))
-opening-over (early {n} {cells} {place} {n'} {place'} {code} {S} {K} {K'} {W} {W'} {o} b u c) =
+opening-over (early {n} {cells} {told} {n'} {told'} {code} {S} {K} {K'} {W} {W'} {o} b u c) =
     let (h, p) = opening-over b in
-    let (k, e) = offer-carried n K W o place code n' K' W' place' h c in
+    let (k, e) = offer-carried n K W o told code n' K' W' told' h c in
     (k, subst (λ (l : Ledger). Opening l cells S) (sym e) (chain.early p u (c .offers h .1)))
 opening-over (moved {n} {n'} {cells} {cells'} {S} o k e f) =
     (k, subst (λ (l : Ledger). Opening l cells' S) (sym (front-ledger n n' e)) (chain.moved (opening-over o .1) f))
@@ -51,22 +51,22 @@ opening-over (moved {n} {n'} {cells} {cells'} {S} o k e f) =
 
 calls-over : {n n' : List ℕ} {K K' : Kept} {es : List Event} → BoundaryCalls n K es n' K' → size ≤ length n → (size ≤ length n') × Calls (ledgerIn n) K es (ledgerIn n') K'
 calls-over stop u = (u, chain.stop)
-calls-over (offer {n} {n'} {n''} {place} {place'} {code} {K} {K'} {K''} {es} {W} {W'} {o} h e c d) u =
-    let (k, q) = offer-carried n K W o place code n' K' W' place' h c in
+calls-over (offer {n} {n'} {n''} {told} {told'} {code} {K} {K'} {K''} {es} {W} {W'} {o} h e c d) u =
+    let (k, q) = offer-carried n K W o told code n' K' W' told' h c in
     let (v, D) = calls-over d k in
     (v, chain.offer {r = c .offers h .0} o e (c .offers h .1) (subst (λ (l : Ledger). Calls l K' es (ledgerIn n'') K'') q D))
-calls-over (short {n} {n'} {n''} {place} {place'} {code} {K} {J} {J'} {K'} {es} {W} {W'} {o} h e s c d) u =
-    let (k, q) = offer-carried n J W o place code n' J' W' place' h c in
+calls-over (short {n} {n'} {n''} {told} {told'} {code} {K} {J} {J'} {K'} {es} {W} {W'} {o} h e s c d) u =
+    let (k, q) = offer-carried n J W o told code n' J' W' told' h c in
     let (v, D) = calls-over d k in
     (v, chain.short {r = c .offers h .0} o e s (c .offers h .1) (subst (λ (l : Ledger). Calls l K es (ledgerIn n'') K') q D))
 calls-over (reading h c d) u = let (v, D) = calls-over d u in (v, chain.reading (c .reads h .2) D)
 calls-over (few-read h J s c d) u = let (v, D) = calls-over d u in (v, chain.few-read J s (c .reads h .2) D)
-calls-over (loading {n} {n'} {n''} {run} {place} {cells} {place'} {at} {code} {K} {K'} {es} c d) u =
-    let (k, q) = load-carried n run at (K .sheet) place code n' cells place' u c in
+calls-over (loading {n} {n'} {n''} {run} {told} {cells} {told'} {at} {code} {K} {K'} {es} c d) u =
+    let (k, q) = load-carried n run at (K .sheet) told code n' cells told' u c in
     let (v, D) = calls-over d k in
-    (v, chain.loading {r = c .loads u .0} (c .loads u .1) (subst (λ (l : Ledger). Calls l (record { sheet = cells; ranks = K .ranks; cuts = K .cuts; cites = K .cites; good = K .good }) es (ledgerIn n'') K') q D))
-calls-over (few-load {n} {n'} {n''} {run} {place} {other} {other'} {place'} {at} {code} {K} {K'} {es} c d) u =
-    let (k, q) = load-carried n run at other place code n' other' place' u c in
+    (v, chain.loading {r = c .loads u .0} (c .loads u .1) (subst (λ (l : Ledger). Calls l (kept cells (K .ranks) (K .cuts) (K .cites) (K .good)) es (ledgerIn n'') K') q D))
+calls-over (few-load {n} {n'} {n''} {run} {told} {other} {other'} {told'} {at} {code} {K} {K'} {es} c d) u =
+    let (k, q) = load-carried n run at other told code n' other' told' u c in
     let (v, D) = calls-over d k in
     (v, chain.few-load {r = c .loads u .0} (c .loads u .1) (subst (λ (l : Ledger). Calls l K es (ledgerIn n'') K') q D))
 calls-over (anew {n} {n'} {n''} {K} {J} {K'} {es} k e s d) u =
@@ -114,29 +114,29 @@ told-two p v [] h = absurd (omega arith)
 told-two p v (x ∷ []) h = absurd (omega arith)
 told-two p v (x ∷ y ∷ l) h = (refl, refl)
 
-module _ (a : Answer) (v : ℕ) (x : Reply a) (place : List ℕ) (code : ℕ) (place' : List ℕ) (two : 2 ≤ length place) (e : code ≡ numberOf a) (w : place' ≡ fill (placeOf a ∷ v ∷ []) place) where
-  seen-answer : a ≡ answerBy code (getD place' 0 0)
+module _ (a : Answer) (v : ℕ) (x : Reply a) (told : List ℕ) (code : ℕ) (told' : List ℕ) (two : 2 ≤ length told) (e : code ≡ numberOf a) (w : told' ≡ fill (placeOf a ∷ v ∷ []) told) where
+  seen-answer : a ≡ answerBy code (getD told' 0 0)
   seen-answer =
-      let at : getD place' 0 0 ≡ placeOf a = ap (λ (l : List ℕ). getD l 0 0) w ∙ told-two (placeOf a) v place two .0 in
+      let at : getD told' 0 0 ≡ placeOf a = ap (λ (l : List ℕ). getD l 0 0) w ∙ told-two (placeOf a) v told two .0 in
       sym (ap₂ answerBy e at ∙ subst (λ (b : Answer). answerBy (numberOf b) (placeOf b) ≡ b) (x .1) (reply-by (x .0)))
 
-  seen-value : v ≡ getD place' 1 0
-  seen-value = sym (ap (λ (l : List ℕ). getD l 1 0) w ∙ told-two (placeOf a) v place two .1)
+  seen-value : v ≡ getD told' 1 0
+  seen-value = sym (ap (λ (l : List ℕ). getD l 1 0) w ∙ told-two (placeOf a) v told two .1)
 
-seen-offer : {n : List ℕ} {K : Kept} {W : Buffers} {o : Offer} {place : List ℕ} {code : ℕ} {n' : List ℕ} {K' : Kept} {W' : Buffers} {place' : List ℕ}
-    → (c : OfferCall n K W o place code n' K' W' place') (h : size ≤ length n) → 2 ≤ length place → answered c h ≡ answerBy code (getD place' 0 0)
-seen-offer {place = place} {code = code} {place' = place'} c h two =
+seen-offer : {n : List ℕ} {K : Kept} {W : Buffers} {o : Offer} {told : List ℕ} {code : ℕ} {n' : List ℕ} {K' : Kept} {W' : Buffers} {told' : List ℕ}
+    → (c : OfferCall n K W o told code n' K' W' told') (h : size ≤ length n) → 2 ≤ length told → answered c h ≡ answerBy code (getD told' 0 0)
+seen-offer {told = told} {code = code} {told' = told'} c h two =
     let s = c .offers h .3 in
-    seen-answer (answered c h) 0 (c .offers h .0 .answer, refl) place code place' two (s .returned) (s .written)
+    seen-answer (answered c h) 0 (c .offers h .0 .answer, refl) told code told' two (s .returned) (s .written)
 
-seen-reading : {n : List ℕ} {K : Kept} {W : Buffers} {q : Query} {outs : List (List ℕ)} {place : List ℕ} {code : ℕ} {W' : Buffers} {outs' : List (List ℕ)} {place' : List ℕ}
-    → (c : ReadCall n K W q outs place code W' outs' place') (h : size ≤ length n) → 2 ≤ length place
-    → told c h ≡ asked (record { query = q; work = workLengths q K W; lists = outs; answer = answerBy code (getD place' 0 0); value = getD place' 1 0; filled = outs' })
-seen-reading {K = K} {W = W} {q = q} {outs = outs} {place = place} {code = code} {outs' = outs'} {place' = place'} c h two =
+seen-reading : {n : List ℕ} {K : Kept} {W : Buffers} {q : Query} {outs : List (List ℕ)} {told : List ℕ} {code : ℕ} {W' : Buffers} {outs' : List (List ℕ)} {told' : List ℕ}
+    → (c : ReadCall n K W q outs told code W' outs' told') (h : size ≤ length n) → 2 ≤ length told
+    → reads c h ≡ asked (record { query = q; work = workLengths q K W; lists = outs; answer = answerBy code (getD told' 0 0); value = getD told' 1 0; filled = outs' })
+seen-reading {K = K} {W = W} {q = q} {outs = outs} {told = told} {code = code} {outs' = outs'} {told' = told'} c h two =
     let (a, v, R, s) = c .reads h in
     let x : Reply a = subst Reply (sym (R .tells .answered)) (read-replies _ _ _ q _) in
     ap₂ (λ (b : Answer) (w : ℕ). asked (record { query = q; work = workLengths q K W; lists = outs; answer = b; value = w; filled = outs' }))
-    (seen-answer a v x place code place' two (s .returned) (s .written)) (seen-value a v x place code place' two (s .returned) (s .written))
+    (seen-answer a v x told code told' two (s .returned) (s .written)) (seen-value a v x told code told' two (s .returned) (s .written))
 
 pub over-boundary : OverBoundary
 over-boundary = record {

@@ -29,7 +29,8 @@ use Rattle.sums.specs.Test.{pick}
 -- ---- what a call's contract says to those who lend 22 numbers
 
 -- the answer to a frame of the sheet
-abbrev pub taken : {n run : List ℕ} {at : ℕ} {sheet told : List ℕ} {code : ℕ} {n' sheet' told' : List ℕ} → LoadCall n run at sheet told code n' sheet' told' → size ≤ length n → Taken
+abbrev pub taken : {n run : List ℕ} {at : ℕ} {sheet told : List ℕ} {code : ℕ} {n' sheet' told' : List ℕ}
+    → LoadCall n run at sheet told code n' sheet' told' → size ≤ length n → Taken
 taken c h = c .loads h .0 .answer
 
 -- the answer to an offer
@@ -38,9 +39,9 @@ abbrev pub answered : {n : List ℕ} {K : Kept} {W : Buffers} {o : Offer} {told 
 answered c h = replyOf (c .offers h .0 .answer)
 
 -- what the caller sees of a call for a reading, with the lengths of the buffers lent for it
-abbrev pub told : {n : List ℕ} {K : Kept} {W : Buffers} {q : Query} {outs : List (List ℕ)} {place : List ℕ} {code : ℕ} {W' : Buffers} {outs' : List (List ℕ)} {place' : List ℕ}
-    → ReadCall n K W q outs place code W' outs' place' → size ≤ length n → Event
-told {K = K} {W = W} {q = q} {outs = outs} {outs' = outs'} c h =
+abbrev pub reads : {n : List ℕ} {K : Kept} {W : Buffers} {q : Query} {outs : List (List ℕ)} {told : List ℕ} {code : ℕ} {W' : Buffers} {outs' : List (List ℕ)}
+    {told' : List ℕ} → ReadCall n K W q outs told code W' outs' told' → size ≤ length n → Event
+reads {K = K} {W = W} {q = q} {outs = outs} {outs' = outs'} c h =
     asked (record { query = q; work = workLengths q K W; lists = outs; answer = c .reads h .0; value = c .reads h .1; filled = outs' })
 
 -- ---- the calls
@@ -50,14 +51,15 @@ pub data BoundaryOpening : List ℕ → List ℕ → Sheet → Type 0 where
   -- "All zero is a fresh ledger"
   begin : {n cells : List ℕ} → size ≤ length n → SameFront size n (replicate size 0) → BoundaryOpening n cells noSheet
   -- rugxeni_load
-  load : {n cells run place n' cells' place' : List ℕ} {at code : ℕ} {S : Sheet} → BoundaryOpening n cells S → (h : size ≤ length n) (c : LoadCall n run at cells place code n' cells' place')
+  load : {n cells run told n' cells' told' : List ℕ} {at code : ℕ} {S : Sheet} → BoundaryOpening n cells S
+      → (h : size ≤ length n) (c : LoadCall n run at cells told code n' cells' told')
       → BoundaryOpening n' cells' (sheetAfter (ledgerIn n .loading) (bodyAt run at) S (taken c h))
   -- the same with other cells than the kept ones, too short for the sheet
-  few : {n cells other run place n' other' place' : List ℕ} {at code : ℕ} {S : Sheet} → BoundaryOpening n cells S → length other < room (ledgerIn n .loading)
-      → LoadCall n run at other place code n' other' place' → BoundaryOpening n' cells S
-  -- an offer, with any buffers, while the sheet is not complete
-  early : {n cells place n' place' : List ℕ} {code : ℕ} {S : Sheet} {K K' : Kept} {W W' : Buffers} {o : Offer} → BoundaryOpening n cells S → complete (ledgerIn n) ≡ false
-      → OfferCall n K W o place code n' K' W' place' → BoundaryOpening n' cells S
+  few : {n cells other run told n' other' told' : List ℕ} {at code : ℕ} {S : Sheet} → BoundaryOpening n cells S → length other < room (ledgerIn n .loading)
+      → LoadCall n run at other told code n' other' told' → BoundaryOpening n' cells S
+  -- an offer, with any buffers, that comes too early
+  early : {n cells told n' told' : List ℕ} {code : ℕ} {S : Sheet} {K K' : Kept} {W W' : Buffers} {o : Offer} → BoundaryOpening n cells S
+      → complete (ledgerIn n) ≡ false → OfferCall n K W o told code n' K' W' told' → BoundaryOpening n' cells S
   -- numbers and cells are kept elsewhere from here on
   moved : {n n' cells cells' : List ℕ} {S : Sheet} → BoundaryOpening n cells S → size ≤ length n' → SameFront size n' n
       → (2 ≤ ledgerIn n .loading .stage → SameFront (leastLengths (ledgerIn n) .sheet) cells' cells) → BoundaryOpening n' cells' S
@@ -66,29 +68,32 @@ pub data BoundaryOpening : List ℕ → List ℕ → Sheet → Type 0 where
 pub data BoundaryCalls : List ℕ → Kept → List Event → List ℕ → Kept → Type 0 where
   stop : {n : List ℕ} {K : Kept} → BoundaryCalls n K [] n K
   -- rugxeni_offer_block, rugxeni_offer_frame
-  offer : {n n' n'' place place' : List ℕ} {code : ℕ} {K K' K'' : Kept} {es : List Event} {W W' : Buffers} {o : Offer} (h : size ≤ length n) → lentOf o ≡ lengthsOf K W
-      → (c : OfferCall n K W o place code n' K' W' place')
+  offer : {n n' n'' told told' : List ℕ} {code : ℕ} {K K' K'' : Kept} {es : List Event} {W W' : Buffers} {o : Offer}
+      (h : size ≤ length n) → lentOf o ≡ lengthsOf K W → (c : OfferCall n K W o told code n' K' W' told')
       → BoundaryCalls n' K' es n'' K'' → BoundaryCalls n K (offered o (answered c h) ∷ es) n'' K''
   -- the same with other buffers than the kept ones, too short for the sheet
-  short : {n n' n'' place place' : List ℕ} {code : ℕ} {K J J' K' : Kept} {es : List Event} {W W' : Buffers} {o : Offer} (h : size ≤ length n) → lentOf o ≡ lengthsOf J W
-      → isAccepted (lentAnswer (offerNeeds (sheetOf (ledgerIn n) K)) (lentOf o)) ≡ false → (c : OfferCall n J W o place code n' J' W' place')
+  short : {n n' n'' told told' : List ℕ} {code : ℕ} {K J J' K' : Kept} {es : List Event} {W W' : Buffers} {o : Offer}
+      (h : size ≤ length n) → lentOf o ≡ lengthsOf J W → isAccepted (lentAnswer (offerNeeds (sheetOf (ledgerIn n) K)) (lentOf o)) ≡ false
+      → (c : OfferCall n J W o told code n' J' W' told')
       → BoundaryCalls n' K es n'' K' → BoundaryCalls n K (offered o (answered c h) ∷ es) n'' K'
   -- rugxeni_accounts, rugxeni_registers, rugxeni_settlements, rugxeni_share, rugxeni_log
-  reading : {n n' place place' : List ℕ} {code : ℕ} {K K' : Kept} {es : List Event} {W W' : Buffers} {q : Query} {outs outs' : List (List ℕ)} (h : size ≤ length n)
-      → (c : ReadCall n (lentTo q K) W q outs place code W' outs' place')
-      → BoundaryCalls n K es n' K' → BoundaryCalls n K (told c h ∷ es) n' K'
+  reading : {n n' told told' : List ℕ} {code : ℕ} {K K' : Kept} {es : List Event} {W W' : Buffers} {q : Query} {outs outs' : List (List ℕ)}
+      (h : size ≤ length n) (c : ReadCall n (lentTo q K) W q outs told code W' outs' told')
+      → BoundaryCalls n K es n' K' → BoundaryCalls n K (reads c h ∷ es) n' K'
   -- the same with other buffers than the kept ones, too short for the sheet
-  few-read : {n n' place place' : List ℕ} {code : ℕ} {K K' : Kept} {es : List Event} {W W' : Buffers} {q : Query} {outs outs' : List (List ℕ)} (h : size ≤ length n) (J : Kept)
-      → isAccepted (lentAnswer (workNeeds (sheetOf (ledgerIn n) K) q) (workLengths q (lentTo q J) W)) ≡ false → (c : ReadCall n (lentTo q J) W q outs place code W' outs' place')
-      → BoundaryCalls n K es n' K' → BoundaryCalls n K (told c h ∷ es) n' K'
+  few-read : {n n' told told' : List ℕ} {code : ℕ} {K K' : Kept} {es : List Event} {W W' : Buffers} {q : Query} {outs outs' : List (List ℕ)}
+      (h : size ≤ length n) (J : Kept) → isAccepted (lentAnswer (workNeeds (sheetOf (ledgerIn n) K) q) (workLengths q (lentTo q J) W)) ≡ false
+      → (c : ReadCall n (lentTo q J) W q outs told code W' outs' told')
+      → BoundaryCalls n K es n' K' → BoundaryCalls n K (reads c h ∷ es) n' K'
   -- rugxeni_load, which finds nothing left to load
-  loading : {n n' n'' run place cells place' : List ℕ} {at code : ℕ} {K K' : Kept} {es : List Event} → LoadCall n run at (K .sheet) place code n' cells place'
+  loading : {n n' n'' run told cells told' : List ℕ} {at code : ℕ} {K K' : Kept} {es : List Event} → LoadCall n run at (K .sheet) told code n' cells told'
       → BoundaryCalls n' (kept cells (K .ranks) (K .cuts) (K .cites) (K .good)) es n'' K' → BoundaryCalls n K es n'' K'
   -- the same with any other cells
-  few-load : {n n' n'' run place other other' place' : List ℕ} {at code : ℕ} {K K' : Kept} {es : List Event} → LoadCall n run at other place code n' other' place'
+  few-load : {n n' n'' run told other other' told' : List ℕ} {at code : ℕ} {K K' : Kept} {es : List Event} → LoadCall n run at other told code n' other' told'
       → BoundaryCalls n' K es n'' K' → BoundaryCalls n K es n'' K'
   -- numbers and ledger are kept elsewhere from here on
-  anew : {n n' n'' : List ℕ} {K J K' : Kept} {es : List Event} → size ≤ length n' → SameFront size n' n → SameLedger (ledgerIn n) K J → BoundaryCalls n' J es n'' K' → BoundaryCalls n K es n'' K'
+  anew : {n n' n'' : List ℕ} {K J K' : Kept} {es : List Event} → size ≤ length n' → SameFront size n' n → SameLedger (ledgerIn n) K J
+      → BoundaryCalls n' J es n'' K' → BoundaryCalls n K es n'' K'
 
 -- numbers and buffers on which calls were made that the caller saw as es, the sheet being S
 pub record BoundaryUse (S : Sheet) (es : List Event) (n : List ℕ) (K : Kept) : Type 0 where
@@ -100,7 +105,7 @@ pub record BoundaryUse (S : Sheet) (es : List Event) (n : List ℕ) (K : Kept) :
 
 -- ---- the claim
 
--- the answer by a code that was returned, and the place that was told: 0 is accepted, 255 no offer
+-- the answer by a code that was returned and the place that was told: 0 is accepted, 255 no offer
 unfoldable pub answerBy : ℕ → ℕ → Answer
 answerBy code place = pick (eqb code 0) accepted (pick (eqb code 255) noOffer (refused code place))
 
@@ -112,8 +117,9 @@ pub record OverBoundary : Type 0 where
   pub two : (S : Sheet) (es es' : List Event) (n n' : List ℕ) (K K' : Kept) → BoundaryUse S es n K → BoundaryUse S es' n' K'
       → Agree S (ledgerIn n) K (logsOf S es) (ledgerIn n') K' (logsOf S es')
   -- the answers in es are those that the caller saw, where two places were lent to tell place and value
-  pub seen : {n : List ℕ} {K : Kept} {W : Buffers} {o : Offer} {place : List ℕ} {code : ℕ} {n' : List ℕ} {K' : Kept} {W' : Buffers} {place' : List ℕ}
-      → (c : OfferCall n K W o place code n' K' W' place') (h : size ≤ length n) → 2 ≤ length place → answered c h ≡ answerBy code (getD place' 0 0)
-  pub seen-read : {n : List ℕ} {K : Kept} {W : Buffers} {q : Query} {outs : List (List ℕ)} {place : List ℕ} {code : ℕ} {W' : Buffers} {outs' : List (List ℕ)} {place' : List ℕ}
-      → (c : ReadCall n K W q outs place code W' outs' place') (h : size ≤ length n) → 2 ≤ length place
-      → told c h ≡ asked (record { query = q; work = workLengths q K W; lists = outs; answer = answerBy code (getD place' 0 0); value = getD place' 1 0; filled = outs' })
+  pub seen : {n : List ℕ} {K : Kept} {W : Buffers} {o : Offer} {told : List ℕ} {code : ℕ} {n' : List ℕ} {K' : Kept} {W' : Buffers} {told' : List ℕ}
+      (c : OfferCall n K W o told code n' K' W' told') (h : size ≤ length n) → 2 ≤ length told → answered c h ≡ answerBy code (getD told' 0 0)
+  pub seen-read : {n : List ℕ} {K : Kept} {W : Buffers} {q : Query} {outs : List (List ℕ)} {told : List ℕ} {code : ℕ} {W' : Buffers} {outs' : List (List ℕ)}
+      {told' : List ℕ} (c : ReadCall n K W q outs told code W' outs' told') (h : size ≤ length n) → 2 ≤ length told
+      → reads c h
+      ≡ asked (record { query = q; work = workLengths q K W; lists = outs; answer = answerBy code (getD told' 0 0); value = getD told' 1 0; filled = outs' })
