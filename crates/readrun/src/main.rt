@@ -1,30 +1,16 @@
 // Reads a run from standard input, and writes its reading to standard output (document 01, "One reading, whole").
+// A run that cannot be read to its end has no reading: nothing is written to standard output then, and a line to standard error.
+mod input;
+mod output;
+mod progress;
+
 use fields::front;
+use input::read_input;
+use output::write_output;
 use report::report::report_run;
 
-// One more read of at most 65,536 bytes, which nobody looks at. Whether there was a byte.
-fn read_on() -> bool {
-    let mut space = io::large_buffer();
-    libc::read(0, &mut space) > 0
-}
-
-// What follows the first 65,537 bytes is read as well, so that whoever writes a long run to a pipe is not cut off.
-// A proved loop has to end, and nothing says that an input does: 2^20 reads, 64 GiB at most, are more than any run has.
-fn read_rest(n: usize) {
-    if n < 65537 {
-        return;
-    }
-    let mut turns = 1048576u32;
-    while turns > 0 && read_on() {
-        turns -= 1;
-    }
-}
-
-// One byte more than a run may have: where it is there the run is long, whatever follows.
-fn main() {
-    let mut space = [0u8; 65537];
-    let n = io::read_full(0, &mut space);
-    let run: &[u8] = &space;
+// Whether the reading was written, all of it.
+fn write_reading(run: &[u8]) -> bool {
     let mut sheet = [0u8; 110592];
     let mut ranks = [0u32; 2048];
     let mut cuts = [0u16; 32768];
@@ -35,7 +21,7 @@ fn main() {
     let mut order = [0u16; 2048];
     let mut out = [0u8; 262144];
     let done = report_run(
-        &run[..n],
+        run,
         &mut sheet,
         &mut ranks,
         &mut cuts,
@@ -46,6 +32,22 @@ fn main() {
         &mut order,
         &mut out,
     );
-    io::write_all(1, front(&out, done.length));
-    read_rest(n);
+    write_output(front(&out, done.length))
+}
+
+// One byte more than a run may have: where it is there the run is long, whatever follows.
+fn main() {
+    let mut space = [0u8; 65537];
+    let input = read_input(&mut space);
+    if !input.whole {
+        io::write_all(libc::STDERR_FILENO, b"readrun: the run could not be read\n");
+        return;
+    }
+    let n = input.length;
+    if !write_reading(front(&space, n)) {
+        io::write_all(
+            libc::STDERR_FILENO,
+            b"readrun: the reading could not be written\n",
+        );
+    }
 }
