@@ -1,0 +1,283 @@
+#!/usr/bin/env python3
+"""Input and output of `readrun`: where a read or a write fails, what is printed, and the status.
+
+    readrun_io.py        a line for each case, then 'N cases, N as they should be'; status 1 where one is not
+
+Tried are the program (target/bin/readrun) and the script (./readrun). Calls that fail in the middle are made by
+readrun_io.c, which is loaded before the C library. The cases of a first use run in a copy with a stub for `rt`.
+"""
+import os
+import pty
+import resource
+import shutil
+import signal
+import subprocess
+import sys
+import tempfile
+import termios
+import time
+
+ROOT = os.path.dirname(os.path.dirname(os.path.abspath(__file__)))
+PROGRAM = os.path.join(ROOT, "target/bin/readrun")
+SCRIPT = os.path.join(ROOT, "readrun")
+EXAMPLES = os.path.join(ROOT, "examples")
+UNREAD = b"readrun: the run could not be read\n"
+UNWRITTEN = b"readrun: the reading could not be written\n"
+LONG = bytes(65537)
+WAIT = 20
+
+count = good = 0
+
+
+def judge(name, got, wanted):
+    global count, good
+    count += 1
+    good += got == wanted
+    print(f"{name}: " + ("as it should be" if got == wanted else f"WRONG\n    got    {got}\n    wanted {wanted}"), flush=True)
+
+
+def example(name):
+    with open(os.path.join(EXAMPLES, name), "rb") as file:
+        return file.read()
+
+
+def started(words, **more):
+    more.setdefault("stdin", subprocess.DEVNULL)
+    more.setdefault("stdout", subprocess.PIPE)
+    return subprocess.Popen(words, stderr=subprocess.PIPE, **more)
+
+
+def ended(process, sent=None):
+    """What it printed, what it said, and its status."""
+    try:
+        out, err = process.communicate(sent, timeout=WAIT)
+    except subprocess.TimeoutExpired:
+        process.kill()
+        return (*process.communicate(), "no end")
+    return out, err, process.returncode
+
+
+def run(words, sent=None, **more):
+    if sent is not None:
+        more["stdin"] = subprocess.PIPE
+    return ended(started(words, **more), sent)
+
+
+def both(name, out, err, status, signalled=False, **more):
+    """The program and the script: the program's own status is 0, unless a signal ends it."""
+    judge(f"{name}, program", run([PROGRAM], **more), (out, err, -signalled if signalled else 0))
+    judge(f"{name}, script", run([SCRIPT], **more), (out, err, status))
+
+
+def faulty(calls):
+    return dict(os.environ, LD_PRELOAD=LIBRARY, CALLS=calls)
+
+
+def whole_readings():
+    for name in sorted(os.listdir(EXAMPLES)):
+        if name.endswith(".run"):
+            reading = example(name[:-4] + ".reading")
+            both(name, reading, b"", 0, sent=example(name))
+            judge(f"{name}, named", run([SCRIPT, os.path.join(EXAMPLES, name)]), (reading, b"", 0))
+    judge("a dash", run([SCRIPT, "-"], sent=example("worked.run")), (example("worked.reading"), b"", 0))
+    both("no byte, refused", b"refused 1 0\n", b"", 0, sent=b"")
+    both("65,536 bytes", b"refused 2 0\n", b"", 0, sent=LONG[1:])
+    both("65,537 bytes", b"long\n", b"", 0, sent=LONG)
+    both("a million bytes, all taken from the pipe", b"long\n", b"", 0, sent=bytes(1000000))
+
+
+def failed_reads():
+    folder = os.open(EXAMPLES, os.O_RDONLY)
+    both("a folder as input", b"", UNREAD, 2, stdin=folder)
+    os.close(folder)
+    judge("closed input, program", run(["bash", "-c", f"'{PROGRAM}' <&-"]), (b"", UNREAD, 0))
+    judge("closed input, script", run(["bash", "-c", f"'{SCRIPT}' <&-"])[::2], (b"", 2))
+    judge("closed input, a named run", run(["bash", "-c", f"'{SCRIPT}' '{EXAMPLES}/worked.run' <&-"]), (example("worked.reading"), b"", 0))
+    idle, writer = os.pipe()
+    os.set_blocking(idle, False)
+    both("an input that does not wait", b"", UNREAD, 2, stdin=idle)
+    os.close(idle), os.close(writer)
+    for calls in "read=1", "read=2", "short=20 read=4", "short=20 interrupt read=4", "short=73 read=3":
+        both(f"a read fails ({calls})", b"", UNREAD, 2, sent=example("worked.run"), env=faulty(calls))
+    for calls in "read=2", "short=50000 read=3", "read=5":
+        both(f"a read of a long run fails ({calls})", b"", UNREAD, 2, sent=bytes(200000), env=faulty(calls))
+    for calls in "short=1", "short=7", "interrupt", "short=1 interrupt", "short=5 interrupt":
+        both(f"a whole reading ({calls})", example("worked.reading"), b"", 0, sent=example("worked.run"), env=faulty(calls))
+    for program in PROGRAM, SCRIPT:
+        near, far = pty.openpty()
+        os.write(far, b"cut off\n")
+        os.close(far)
+        judge(f"a line that is cut off, {os.path.relpath(program, ROOT)}", run([program], stdin=near)[:2], (b"", UNREAD))
+        os.close(near)
+
+
+def failed_writes():
+    worked = example("worked.run")
+    with open("/dev/full", "wb") as full:
+        both("a full device", None, UNWRITTEN, 2, sent=worked, stdout=full)
+    judge("closed output, program", run(["bash", "-c", f"'{PROGRAM}' >&-"], sent=worked), (b"", UNWRITTEN, 0))
+    judge("closed output, script", run(["bash", "-c", f"'{SCRIPT}' >&-"], sent=worked)[::2], (b"", 2))
+    judge("nothing open", run(["bash", "-c", f"'{SCRIPT}' <&- >&- 2>&-"]), (b"", b"", 2))
+    judge("closed errors", run(["bash", "-c", f"'{SCRIPT}' 2>&-"], sent=worked), (example("worked.reading"), b"", 0))
+    both("the first write fails", b"", UNWRITTEN, 2, sent=worked, env=faulty("write=1"))
+    both("a later write fails", example("worked.reading")[:40], UNWRITTEN, 2, sent=worked, env=faulty("short=20 write=3"))
+    both("the close fails", example("worked.reading"), UNWRITTEN, 2, sent=worked, env=faulty("close"))
+    for program, status in (PROGRAM, -signal.SIGPIPE), (SCRIPT, 128 + signal.SIGPIPE):
+        for restored, wanted in (True, (b"", status)), (False, (UNWRITTEN, 2 if program == SCRIPT else 0)):
+            reader, writer = os.pipe()
+            os.close(reader)
+            got = run([program], sent=worked, stdout=writer, restore_signals=restored)
+            os.close(writer)
+            judge(f"nobody reads, {os.path.relpath(program, ROOT)}" + ("" if restored else ", signal ignored"), got[1:], wanted)
+    first = run(["bash", "-c", f"set -o pipefail; '{SCRIPT}' '{EXAMPLES}/full.run' | head -n 1"])
+    judge("the first line alone", (first[:2], first[2] in (0, 141)), ((example("full.reading").split(b"\n")[0] + b"\n", b""), True))
+
+
+def arguments():
+    worked = os.path.join(EXAMPLES, "worked.run")
+    judge("an empty name", run([SCRIPT, ""]), (b"", b"readrun: the name of the file is empty\n", 2))
+    judge("no such file", run([SCRIPT, "no.run"]), (b"", b"readrun: there is no file no.run\n", 2))
+    judge("a folder", run([SCRIPT, "examples"], cwd=ROOT), (b"", b"readrun: examples is a folder, not a run\n", 2))
+    judge("two arguments", run([SCRIPT, worked, worked]), (b"", b"readrun: usage: ./readrun [FILE]\n", 2))
+    judge("help", run([SCRIPT, "--help"])[1:], (b"", 0))
+    reading = (example("worked.reading"), b"", 0)
+    with tempfile.TemporaryDirectory() as folder:
+        os.symlink(SCRIPT, os.path.join(folder, "first"))
+        os.symlink("first", os.path.join(folder, "second link"))
+        os.symlink(ROOT, os.path.join(folder, "whole"))
+        judge("a link", run([os.path.join(folder, "first"), worked]), reading)
+        judge("a link to a link, from elsewhere", run(["./second link", worked], cwd=folder), reading)
+        judge("a link on PATH", run(["env", f"PATH={folder}:{os.environ['PATH']}", "first", worked], cwd="/"), reading)
+        judge("a linked folder", run(["whole/readrun", "whole/examples/worked.run"], cwd=folder), reading)
+
+
+def on_terminal(words, typed, **more):
+    """Runs on a terminal of its own, types something, and tells what came of it, without what the terminal shows."""
+    near, far = pty.openpty()
+
+    def own():
+        os.setsid()
+        os.close(os.open(os.ttyname(0), os.O_RDWR))
+
+    process = started(words, stdin=far, preexec_fn=own, **more)
+    os.close(far)
+    for text in typed:
+        time.sleep(0.5)
+        os.write(near, text)
+    got = ended(process)
+    os.close(near)
+    return got
+
+
+def alive(folder):
+    """The processes that work in a folder, or have a file of it open."""
+    found = []
+    for number in filter(str.isdigit, os.listdir("/proc")):
+        try:
+            links = [os.readlink(f"/proc/{number}/cwd")] + [os.readlink(f"/proc/{number}/fd/{k}") for k in os.listdir(f"/proc/{number}/fd")]
+        except OSError:
+            continue
+        if any(link.startswith(folder) for link in links):
+            found.append(int(number))
+    return found
+
+
+def terminals_and_signals():
+    for program in PROGRAM, SCRIPT:
+        judge(f"one end of input after a line, {os.path.relpath(program, ROOT)}", on_terminal([program], [b"abc\n", b"\4"]), (b"refused 2 0\n", b"", 0))
+    judge("an interrupt from the terminal", on_terminal([SCRIPT], [b"abc\n", b"\3"]), (b"", b"", -signal.SIGINT))
+    with tempfile.TemporaryDirectory() as folder:
+        for number in signal.SIGTERM, signal.SIGHUP, signal.SIGINT:
+            process = started([SCRIPT], stdin=subprocess.PIPE, cwd=folder)
+            time.sleep(0.5)
+            process.send_signal(number)
+            process.wait(WAIT)
+            judge(f"{number.name}, and nothing goes on", (process.returncode, alive(folder)), (-number, []))
+            process.stdin.close()
+        process = started([SCRIPT], stdin=subprocess.PIPE, cwd=folder)
+        time.sleep(0.5)
+        for number in set(alive(folder)) - {process.pid}:
+            os.kill(number, signal.SIGKILL)
+        judge("a program that is killed", ended(process), (b"", b"readrun: the program was ended by signal 9\n", 137))
+
+
+def small_stack():
+    limit = 1 << 20
+    bound = lambda: resource.setrlimit(resource.RLIMIT_STACK, (limit, limit))
+    judge("a stack of 1 MiB", run([PROGRAM], sent=example("full.run"), preexec_fn=bound), (example("full.reading"), b"", 0))
+
+
+STUB = """#!/bin/sh
+# Stands for rt: counts its calls, then does what the file 'plan' says.
+echo call >>"$STUB/calls"
+mkdir -p target/bin target/log
+case $(cat "$STUB/plan") in
+wait)
+    (sleep 100; sleep 100) &
+    printf '#!/bin/sh\\necho half built\\n' >target/bin/readrun
+    chmod +x target/bin/readrun
+    sleep 100
+    wait
+    ;;
+fail) echo 'rt: readrun NOT PROVED (exit 1, 1 s)'; exit 1 ;;
+*) rm -f target/bin/readrun; cp "$PROVED" target/bin/readrun ;;
+esac
+"""
+
+
+def first_use():
+    with tempfile.TemporaryDirectory() as folder:
+        copy, stub = os.path.join(folder, "copy"), os.path.join(folder, "stub")
+        os.makedirs(os.path.join(copy, "crates/readrun")), os.makedirs(stub)
+        shutil.copy(SCRIPT, copy), shutil.copy(os.path.join(ROOT, "crates.txt"), copy)
+        with open(os.path.join(stub, "rt"), "w", encoding="utf-8") as file:
+            file.write(STUB)
+        os.chmod(os.path.join(stub, "rt"), 0o755)
+        env = dict(os.environ, PATH=f"{stub}:{os.environ['PATH']}", STUB=stub, PROVED=PROGRAM)
+        words = [os.path.join(copy, "readrun"), os.path.join(EXAMPLES, "worked.run")]
+
+        def plan(text):
+            with open(os.path.join(stub, "plan"), "w", encoding="utf-8") as file:
+                file.write(text)
+
+        def state():
+            marks = [name for name in os.listdir(os.path.join(copy, "target")) if "checked" in name]
+            return alive(copy), marks
+
+        plan("wait")
+        for number in signal.SIGTERM, signal.SIGINT, signal.SIGHUP:
+            process = started(words, env=env)
+            time.sleep(1)
+            process.send_signal(number)
+            got = ended(process)
+            judge(f"a first use that {number.name} ends", (got[0], got[2], state()), (b"", -number, ([], [])))
+        got = on_terminal(words, [b"\3"], env=env)
+        judge("a first use that the terminal interrupts", (got[0], got[2], state()), (b"", -signal.SIGINT, ([], [])))
+        plan("fail")
+        got = run(words, env=env)
+        judge("a first use that proves nothing", (got[0], b"NOT PROVED" in got[1], got[2], alive(copy)), (b"", True, 2, []))
+        plan("prove")
+        got = run(words, env=env)
+        judge("a use after these", (got[0], got[2], state()), (example("worked.reading"), 0, ([], ["readrun.checked"])))
+        judge("a second use", run(words, env=env), (example("worked.reading"), b"", 0))
+        with open(os.path.join(stub, "calls"), encoding="utf-8") as file:
+            judge("proved once for each use but the second", len(file.readlines()), 6)
+        for number in alive(copy):
+            os.kill(number, signal.SIGKILL)
+
+
+if __name__ == "__main__":
+    with tempfile.TemporaryDirectory() as made:
+        LIBRARY = os.path.join(made, "readrun_io.so")
+        subprocess.run(["cc", "-shared", "-fPIC", "-O1", "-o", LIBRARY, os.path.join(ROOT, "tests/readrun_io.c")], check=True)
+        # Where the program was built by another command, the script's first use says so.
+        judge("the script", run([SCRIPT, os.path.join(EXAMPLES, "worked.run")])[::2], (example("worked.reading"), 0))
+        whole_readings()
+        failed_reads()
+        failed_writes()
+        arguments()
+        terminals_and_signals()
+        small_stack()
+        first_use()
+    print(f"{count} cases, {good} as they should be")
+    sys.exit(good != count)
