@@ -1,72 +1,22 @@
 #!/usr/bin/env python3
 """Input and output of `readrun`: where a read or a write fails, what is printed, and the status.
 
-    readrun_io.py        a line for each case, then 'N cases, N as they should be'; status 1 where one is not
+    python3 tests/readrun_io/run.py      a line for each case, then 'N cases, N as they should be'; status 1 where one is not
 
-Tried are the program (target/bin/readrun) and the script (./readrun). Calls that fail in the middle are made by
-readrun_io.c, which is loaded before the C library. The cases of a first use run in a copy with a stub for `rt`.
+Tried are the program (target/bin/readrun) and the script (./readrun). Calls that fail in the middle are made by calls.c,
+which is loaded before the C library. The cases of a first use (first_use.py) run in a copy with a stub for `rt`.
 """
 import os
 import pty
 import resource
-import shutil
 import signal
 import subprocess
 import sys
 import tempfile
-import termios
-import time
 
-ROOT = os.path.dirname(os.path.dirname(os.path.abspath(__file__)))
-PROGRAM = os.path.join(ROOT, "target/bin/readrun")
-SCRIPT = os.path.join(ROOT, "readrun")
-EXAMPLES = os.path.join(ROOT, "examples")
-UNREAD = b"readrun: the run could not be read\n"
-UNWRITTEN = b"readrun: the reading could not be written\n"
-LONG = bytes(65537)
-WAIT = 20
-
-count = good = 0
-
-
-def judge(name, got, wanted):
-    global count, good
-    count += 1
-    good += got == wanted
-    print(f"{name}: " + ("as it should be" if got == wanted else f"WRONG\n    got    {got}\n    wanted {wanted}"), flush=True)
-
-
-def example(name):
-    with open(os.path.join(EXAMPLES, name), "rb") as file:
-        return file.read()
-
-
-def started(words, **more):
-    more.setdefault("stdin", subprocess.DEVNULL)
-    more.setdefault("stdout", subprocess.PIPE)
-    return subprocess.Popen(words, stderr=subprocess.PIPE, **more)
-
-
-def ended(process, sent=None):
-    """What it printed, what it said, and its status."""
-    try:
-        out, err = process.communicate(sent, timeout=WAIT)
-    except subprocess.TimeoutExpired:
-        process.kill()
-        return (*process.communicate(), "no end")
-    return out, err, process.returncode
-
-
-def run(words, sent=None, **more):
-    if sent is not None:
-        more["stdin"] = subprocess.PIPE
-    return ended(started(words, **more), sent)
-
-
-def both(name, out, err, status, signalled=False, **more):
-    """The program and the script: the program's own status is 0, unless a signal ends it."""
-    judge(f"{name}, program", run([PROGRAM], **more), (out, err, -signalled if signalled else 0))
-    judge(f"{name}, script", run([SCRIPT], **more), (out, err, status))
+sys.dont_write_bytecode = True
+from first_use import first_use
+from trial import EXAMPLES, HERE, PROGRAM, ROOT, SCRIPT, UNREAD, UNWRITTEN, WAIT, alive, both, ended, example, judge, on_terminal, run, started, until, verdicts
 
 
 def faulty(calls):
@@ -81,8 +31,8 @@ def whole_readings():
             judge(f"{name}, named", run([SCRIPT, os.path.join(EXAMPLES, name)]), (reading, b"", 0))
     judge("a dash", run([SCRIPT, "-"], sent=example("worked.run")), (example("worked.reading"), b"", 0))
     both("no byte, refused", b"refused 1 0\n", b"", 0, sent=b"")
-    both("65,536 bytes", b"refused 2 0\n", b"", 0, sent=LONG[1:])
-    both("65,537 bytes", b"long\n", b"", 0, sent=LONG)
+    both("65,536 bytes", b"refused 2 0\n", b"", 0, sent=bytes(65536))
+    both("65,537 bytes", b"long\n", b"", 0, sent=bytes(65537))
     both("a million bytes, all taken from the pipe", b"long\n", b"", 0, sent=bytes(1000000))
 
 
@@ -151,35 +101,9 @@ def arguments():
         judge("a linked folder", run(["whole/readrun", "whole/examples/worked.run"], cwd=folder), reading)
 
 
-def on_terminal(words, typed, **more):
-    """Runs on a terminal of its own, types something, and tells what came of it, without what the terminal shows."""
-    near, far = pty.openpty()
-
-    def own():
-        os.setsid()
-        os.close(os.open(os.ttyname(0), os.O_RDWR))
-
-    process = started(words, stdin=far, preexec_fn=own, **more)
-    os.close(far)
-    for text in typed:
-        time.sleep(0.5)
-        os.write(near, text)
-    got = ended(process)
-    os.close(near)
-    return got
-
-
-def alive(folder):
-    """The processes that work in a folder, or have a file of it open."""
-    found = []
-    for number in filter(str.isdigit, os.listdir("/proc")):
-        try:
-            links = [os.readlink(f"/proc/{number}/cwd")] + [os.readlink(f"/proc/{number}/fd/{k}") for k in os.listdir(f"/proc/{number}/fd")]
-        except OSError:
-            continue
-        if any(link.startswith(folder) for link in links):
-            found.append(int(number))
-    return found
+def reading(folder, script):
+    """The program that a script has started in a folder."""
+    return [number for number in alive(folder) if number != script.pid and os.readlink(f"/proc/{number}/exe") == PROGRAM]
 
 
 def terminals_and_signals():
@@ -189,14 +113,14 @@ def terminals_and_signals():
     with tempfile.TemporaryDirectory() as folder:
         for number in signal.SIGTERM, signal.SIGHUP, signal.SIGINT:
             process = started([SCRIPT], stdin=subprocess.PIPE, cwd=folder)
-            time.sleep(0.5)
+            until(lambda: reading(folder, process))
             process.send_signal(number)
             process.wait(WAIT)
             judge(f"{number.name}, and nothing goes on", (process.returncode, alive(folder)), (-number, []))
             process.stdin.close()
         process = started([SCRIPT], stdin=subprocess.PIPE, cwd=folder)
-        time.sleep(0.5)
-        for number in set(alive(folder)) - {process.pid}:
+        until(lambda: reading(folder, process))
+        for number in reading(folder, process):
             os.kill(number, signal.SIGKILL)
         judge("a program that is killed", ended(process), (b"", b"readrun: the program was ended by signal 9\n", 137))
 
@@ -207,69 +131,10 @@ def small_stack():
     judge("a stack of 1 MiB", run([PROGRAM], sent=example("full.run"), preexec_fn=bound), (example("full.reading"), b"", 0))
 
 
-STUB = """#!/bin/sh
-# Stands for rt: counts its calls, then does what the file 'plan' says.
-echo call >>"$STUB/calls"
-mkdir -p target/bin target/log
-case $(cat "$STUB/plan") in
-wait)
-    (sleep 100; sleep 100) &
-    printf '#!/bin/sh\\necho half built\\n' >target/bin/readrun
-    chmod +x target/bin/readrun
-    sleep 100
-    wait
-    ;;
-fail) echo 'rt: readrun NOT PROVED (exit 1, 1 s)'; exit 1 ;;
-*) rm -f target/bin/readrun; cp "$PROVED" target/bin/readrun ;;
-esac
-"""
-
-
-def first_use():
-    with tempfile.TemporaryDirectory() as folder:
-        copy, stub = os.path.join(folder, "copy"), os.path.join(folder, "stub")
-        os.makedirs(os.path.join(copy, "crates/readrun")), os.makedirs(stub)
-        shutil.copy(SCRIPT, copy), shutil.copy(os.path.join(ROOT, "crates.txt"), copy)
-        with open(os.path.join(stub, "rt"), "w", encoding="utf-8") as file:
-            file.write(STUB)
-        os.chmod(os.path.join(stub, "rt"), 0o755)
-        env = dict(os.environ, PATH=f"{stub}:{os.environ['PATH']}", STUB=stub, PROVED=PROGRAM)
-        words = [os.path.join(copy, "readrun"), os.path.join(EXAMPLES, "worked.run")]
-
-        def plan(text):
-            with open(os.path.join(stub, "plan"), "w", encoding="utf-8") as file:
-                file.write(text)
-
-        def state():
-            marks = [name for name in os.listdir(os.path.join(copy, "target")) if "checked" in name]
-            return alive(copy), marks
-
-        plan("wait")
-        for number in signal.SIGTERM, signal.SIGINT, signal.SIGHUP:
-            process = started(words, env=env)
-            time.sleep(1)
-            process.send_signal(number)
-            got = ended(process)
-            judge(f"a first use that {number.name} ends", (got[0], got[2], state()), (b"", -number, ([], [])))
-        got = on_terminal(words, [b"\3"], env=env)
-        judge("a first use that the terminal interrupts", (got[0], got[2], state()), (b"", -signal.SIGINT, ([], [])))
-        plan("fail")
-        got = run(words, env=env)
-        judge("a first use that proves nothing", (got[0], b"NOT PROVED" in got[1], got[2], alive(copy)), (b"", True, 2, []))
-        plan("prove")
-        got = run(words, env=env)
-        judge("a use after these", (got[0], got[2], state()), (example("worked.reading"), 0, ([], ["readrun.checked"])))
-        judge("a second use", run(words, env=env), (example("worked.reading"), b"", 0))
-        with open(os.path.join(stub, "calls"), encoding="utf-8") as file:
-            judge("proved once for each use but the second", len(file.readlines()), 6)
-        for number in alive(copy):
-            os.kill(number, signal.SIGKILL)
-
-
 if __name__ == "__main__":
     with tempfile.TemporaryDirectory() as made:
-        LIBRARY = os.path.join(made, "readrun_io.so")
-        subprocess.run(["cc", "-shared", "-fPIC", "-O1", "-o", LIBRARY, os.path.join(ROOT, "tests/readrun_io.c")], check=True)
+        LIBRARY = os.path.join(made, "calls.so")
+        subprocess.run(["cc", "-shared", "-fPIC", "-O1", "-o", LIBRARY, os.path.join(HERE, "calls.c")], check=True)
         # Where the program was built by another command, the script's first use says so.
         judge("the script", run([SCRIPT, os.path.join(EXAMPLES, "worked.run")])[::2], (example("worked.reading"), 0))
         whole_readings()
@@ -279,5 +144,5 @@ if __name__ == "__main__":
         terminals_and_signals()
         small_stack()
         first_use()
-    print(f"{count} cases, {good} as they should be")
-    sys.exit(good != count)
+    print(f"{len(verdicts)} cases, {sum(verdicts)} as they should be")
+    sys.exit(not all(verdicts))
