@@ -101,11 +101,6 @@ def arguments():
         judge("a linked folder", run(["whole/readrun", "whole/examples/worked.run"], cwd=folder), reading)
 
 
-def reading(folder, script):
-    """The program that a script has started in a folder."""
-    return [number for number in alive(folder) if number != script.pid and os.readlink(f"/proc/{number}/exe") == PROGRAM]
-
-
 def terminals_and_signals():
     for program in PROGRAM, SCRIPT:
         judge(f"one end of input after a line, {os.path.relpath(program, ROOT)}", on_terminal([program], [b"abc\n", b"\4"]), (b"refused 2 0\n", b"", 0))
@@ -113,14 +108,14 @@ def terminals_and_signals():
     with tempfile.TemporaryDirectory() as folder:
         for number in signal.SIGTERM, signal.SIGHUP, signal.SIGINT:
             process = started([SCRIPT], stdin=subprocess.PIPE, cwd=folder)
-            until(lambda: reading(folder, process))
+            until(lambda: alive(folder, PROGRAM))
             process.send_signal(number)
             process.wait(WAIT)
             judge(f"{number.name}, and nothing goes on", (process.returncode, alive(folder)), (-number, []))
             process.stdin.close()
         process = started([SCRIPT], stdin=subprocess.PIPE, cwd=folder)
-        until(lambda: reading(folder, process))
-        for number in reading(folder, process):
+        until(lambda: alive(folder, PROGRAM))
+        for number in alive(folder, PROGRAM):
             os.kill(number, signal.SIGKILL)
         judge("a program that is killed", ended(process), (b"", b"readrun: the program was ended by signal 9\n", 137))
 
@@ -132,6 +127,9 @@ def small_stack():
 
 
 if __name__ == "__main__":
+    # A command that is started in the background ignores these, and so would all that it starts.
+    for number in signal.SIGINT, signal.SIGHUP, signal.SIGTERM:
+        signal.signal(number, signal.SIG_DFL)
     with tempfile.TemporaryDirectory() as made:
         LIBRARY = os.path.join(made, "calls.so")
         subprocess.run(["cc", "-shared", "-fPIC", "-O1", "-o", LIBRARY, os.path.join(HERE, "calls.c")], check=True)

@@ -81,14 +81,15 @@ def on_terminal(words, typed, ready=lambda: True, **more):
     return got
 
 
-def alive(folder):
-    """The processes that work in a folder, or have a file of it open."""
+def alive(folder, program=""):
+    """The processes that work in a folder, or have a file of it open; of a program alone where one is named."""
     found = []
     for number in filter(str.isdigit, os.listdir("/proc")):
         try:
+            own = os.readlink(f"/proc/{number}/exe")
             links = [os.readlink(f"/proc/{number}/cwd")] + [os.readlink(f"/proc/{number}/fd/{k}") for k in os.listdir(f"/proc/{number}/fd")]
         except OSError:
             continue
-        if any(link.startswith(folder) for link in links):
+        if program in ("", own) and any(link.startswith(folder) for link in links):
             found.append(int(number))
     return found
