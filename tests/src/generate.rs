@@ -5,9 +5,11 @@
 //! * [`blocks`] — deliveries: ranks, cuts, turns and citations of every habit;
 //! * [`spoil`] — blocks that are to be turned away (8 to 15 and 17);
 //! * [`damage`] — slips and runs that are not sound (1 to 7);
+//! * [`bounds`] — runs that hang on the last place of every list;
 //! * [`full`] — one run that fills 65,536 bytes.
 
 pub mod blocks;
+pub mod bounds;
 pub mod damage;
 pub mod full;
 pub mod random;
@@ -81,9 +83,22 @@ pub fn run(random: &mut Random, size: Size, noise: u64) -> Run {
     Run { sheet, offers }
 }
 
-/// The bytes that a seed stands for, for `gen` and `compare`: mostly small
-/// and medium runs, some of them noisy, some damaged.
+/// Whether a seed stands for a run at the limits: every tenth does.
+pub fn is_at_the_limits(seed: u64) -> bool {
+    seed % 10 == 7
+}
+
+/// The bytes that a seed stands for, for `gen` and `compare`.
 pub fn bytes(seed: u64) -> Vec<u8> {
+    if is_at_the_limits(seed) {
+        return bounds::run(&mut Random::new(seed)).bytes();
+    }
+    usual(seed)
+}
+
+/// Runs of every size but the largest, mostly small and medium ones, some of
+/// them noisy, some damaged.
+pub fn usual(seed: u64) -> Vec<u8> {
     let mut random = Random::new(seed);
     let size = match random.below(100) {
         0..34 => Size::Tiny,
@@ -95,10 +110,10 @@ pub fn bytes(seed: u64) -> Vec<u8> {
 }
 
 /// The bytes that a seed stands for in the long comparison. Every tenth run
-/// is that of [`bytes`]; the others are tiny or small, so that a million of
-/// them are read within the hour.
+/// is a usual one, every hundredth one at the limits; the others are tiny or
+/// small, so that a million of them are read within the hour.
 pub fn mostly_small(seed: u64) -> Vec<u8> {
-    if seed.is_multiple_of(10) {
+    if seed.is_multiple_of(10) || seed % 100 == 7 {
         return bytes(seed);
     }
     let mut random = Random::new(seed);

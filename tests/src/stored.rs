@@ -125,9 +125,9 @@ fn no_register() -> Vec<u8> {
     run(&sheet(2, 0, &[2, 1], &contracts), &blocks)
 }
 
-/// Runs of seeds, as `crosscheck gen` writes them.
+/// The usual runs of seeds.
 fn generated() -> Vec<Vec<u8>> {
-    (1..=SEEDS).map(generate::bytes).filter(|run| run.len() <= MOST_BYTES).collect()
+    (1..=SEEDS).map(generate::usual).filter(|run| run.len() <= MOST_BYTES).collect()
 }
 
 /// What the program has to print.

@@ -97,6 +97,27 @@ impl Pace {
             forgotten: random.pick(&[0, 0, 5, 30]),
         }
     }
+
+    /// For a delivery whose citations are given: mostly each block has seen
+    /// all that is there, and comes after it.
+    pub fn thorough(random: &mut Random, sheet: &Sheet) -> Pace {
+        let above = Ranks::AboveCut;
+        let exact = Cuts::Exact;
+        Pace {
+            offers: usize::MAX,
+            budget: usize::MAX,
+            noise: 0,
+            weights: vec![1; sheet.instances()],
+            late: None,
+            bursts: 0,
+            ranks: random.pick(&[above, above, above, above, Ranks::Steps, Ranks::Coarse]),
+            cuts: random.pick(&[exact, exact, exact, exact, Cuts::Lagging, Cuts::Mixed]),
+            empty: 0,
+            most_citations: MOST_CITATIONS as u64,
+            in_order: 100,
+            forgotten: 0,
+        }
+    }
 }
 
 /// Mostly all alike; sometimes a straggler, sometimes silent instances.
@@ -136,18 +157,18 @@ pub fn offers(random: &mut Random, sheet: &Sheet, pace: &Pace) -> Vec<Block> {
 }
 
 /// A delivery under way.
-struct Delivery<'a> {
-    sheet: &'a Sheet,
+pub struct Delivery<'a> {
+    pub sheet: &'a Sheet,
     pace: &'a Pace,
-    logs: Logs,
+    pub logs: Logs,
     /// For each instance the transactions with a part there that it may cite.
     pools: Vec<Vec<u16>>,
     last: usize,
-    offers: Vec<Block>,
+    pub offers: Vec<Block>,
 }
 
 impl<'a> Delivery<'a> {
-    fn new(random: &mut Random, sheet: &'a Sheet, pace: &'a Pace) -> Delivery<'a> {
+    pub fn new(random: &mut Random, sheet: &'a Sheet, pace: &'a Pace) -> Delivery<'a> {
         let mut pool = |instance| {
             let here = |number: &u16| !sheet.part(usize::from(*number), instance).is_empty();
             let mut pool: Vec<u16> = (0..sheet.head.t).filter(here).collect();
@@ -177,7 +198,7 @@ impl<'a> Delivery<'a> {
     }
 
     /// Keeps account of an offer.
-    fn offer(&mut self, block: Block) {
+    pub fn offer(&mut self, block: Block) {
         if self.logs.judge(self.sheet, &block).is_ok() {
             let instance = usize::from(block.instance);
             self.pools[instance].retain(|number| !block.citations.contains(number));
@@ -211,14 +232,16 @@ impl<'a> Delivery<'a> {
 
     /// A block of an instance that would be accepted, if any would.
     fn block(&self, random: &mut Random, instance: usize) -> Block {
+        let block = self.citing(random, instance, Vec::new());
+        Block { citations: self.citations(random, instance), ..block }
+    }
+
+    /// The same with citations that are given.
+    pub fn citing(&self, random: &mut Random, instance: usize, citations: Vec<u16>) -> Block {
         let cut = self.cut(random, instance);
-        Block {
-            instance: instance as u16,
-            number: self.logs.of(instance).len() as u16 + 1,
-            rank: self.rank(random, instance, &cut),
-            cut,
-            citations: self.citations(random, instance),
-        }
+        let number = self.logs.of(instance).len() as u16 + 1;
+        let rank = self.rank(random, instance, &cut);
+        Block { instance: instance as u16, number, rank, cut, citations }
     }
 
     fn cut(&self, random: &mut Random, own: usize) -> Cut {

@@ -233,7 +233,7 @@ fn operations(random: &mut Random, taste: &Taste, registers: &mut [u32]) -> Vec<
 
 /// A value with which an operation on a register that holds `now` passes, or
 /// does not, often by one.
-fn value(random: &mut Random, code: u8, now: u32, passes: bool) -> u32 {
+pub fn value(random: &mut Random, code: u8, now: u32, passes: bool) -> u32 {
     let any = random.bits() as u32;
     match (code, passes) {
         (0, true) => now,
