@@ -7,7 +7,8 @@ use std::process::{Command, Output, Stdio};
 use std::thread;
 use std::time::Instant;
 
-use crate::{cases, generate, reading};
+use crate::cases::{self, Case};
+use crate::{generate, reading, records};
 
 /// A program with its arguments, parted by spaces.
 pub struct Program {
@@ -47,15 +48,51 @@ impl Program {
 /// Compares a program with the second engine on the runs of `count` seeds
 /// from `seed` on. True if all agree.
 pub fn seeds(program: &Program, count: u64, seed: u64) -> io::Result<bool> {
+    Ok(each_seed(program, count, seed, <[u8]>::to_vec)? && all_agree(count)?)
+}
+
+/// Compares a program with the texts of the named cases. True if all agree.
+pub fn cases(program: &Program) -> io::Result<bool> {
+    let cases = cases::all();
+    Ok(each_case(program, &cases, <[u8]>::to_vec)? && all_agree(cases.len() as u64)?)
+}
+
+/// Compares a program that prints account records: on the runs of seeds, and
+/// on the named cases. True if all agree.
+pub fn records(program: &Program, count: u64, seed: u64) -> io::Result<bool> {
+    let cases = cases::all();
+    Ok(each_seed(program, count, seed, records::of_reading)?
+        && each_case(program, &cases, records::of_reading)?
+        && all_agree(count + cases.len() as u64)?)
+}
+
+/// What a program has to print, made of the reading of its run.
+type Expected = fn(&[u8]) -> Vec<u8>;
+
+fn each_seed(program: &Program, count: u64, seed: u64, expected: Expected) -> io::Result<bool> {
     for round in 0..count {
         let seed = seed.wrapping_add(round);
         let run = generate::bytes(seed);
         let name = format!("seed {seed}");
         let file = format!("difference-{seed}");
-        if !agree(program, &name, &file, &run, &reading(&run))? {
+        if !agree(program, &name, &file, &run, &expected(&reading(&run)))? {
             return Ok(false);
         }
     }
+    Ok(true)
+}
+
+fn each_case(program: &Program, cases: &[Case], expected: Expected) -> io::Result<bool> {
+    for (number, case) in cases.iter().enumerate() {
+        let file = format!("difference-case-{number}");
+        if !agree(program, &case.name, &file, &case.run, &expected(case.text.as_bytes()))? {
+            return Ok(false);
+        }
+    }
+    Ok(true)
+}
+
+fn all_agree(count: u64) -> io::Result<bool> {
     writeln!(io::stdout(), "{count} runs, {count} agree")?;
     Ok(true)
 }
@@ -80,21 +117,8 @@ pub fn long(program: &Program, count: u64, seed: u64) -> io::Result<bool> {
             writeln!(io::stderr(), "{done} of {count} runs agree, {seconds} s")?;
         }
     }
-    writeln!(io::stdout(), "{readings}\n{count} runs, {count} agree")?;
-    Ok(true)
-}
-
-/// Compares a program with the texts of the named cases. True if all agree.
-pub fn cases(program: &Program) -> io::Result<bool> {
-    let cases = cases::all();
-    for (number, case) in cases.iter().enumerate() {
-        let file = format!("difference-case-{number}");
-        if !agree(program, &case.name, &file, &case.run, case.text.as_bytes())? {
-            return Ok(false);
-        }
-    }
-    writeln!(io::stdout(), "{0} runs, {0} agree", cases.len())?;
-    Ok(true)
+    writeln!(io::stdout(), "{readings}")?;
+    all_agree(count)
 }
 
 /// What readings a comparison met, by how they end.

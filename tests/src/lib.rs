@@ -9,6 +9,7 @@
 //! * [`generate`] — seeded runs of every size, sound, noisy and damaged.
 //! * [`replay`] — the same instance logs, delivered in another order.
 //! * [`cases`] — named runs with the text that the paper gives for them.
+//! * [`records`] — what `records_run` prints, taken from a reading.
 //! * [`examples`] — the runs that ship in `examples/`.
 //! * [`stored`] — the runs that the program `stored_runs` reads in the gate.
 //! * [`compare`] — another program's readings against the second engine's.
@@ -19,6 +20,7 @@ pub mod compare;
 pub mod engine;
 pub mod examples;
 pub mod generate;
+pub mod records;
 pub mod replay;
 pub mod stored;
 pub mod timing;

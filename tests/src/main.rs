@@ -6,7 +6,7 @@ use std::process::ExitCode;
 use std::{env, fs};
 
 use crosscheck::compare::{self, Program};
-use crosscheck::{examples, generate, reading, stored, timing};
+use crosscheck::{examples, generate, reading, records, stored, timing};
 
 const USAGE: &str = "\
 usage: crosscheck gen SEED OUTFILE         write the run of a seed
@@ -14,10 +14,12 @@ usage: crosscheck gen SEED OUTFILE         write the run of a seed
        crosscheck compare PROGRAM N SEED   compare PROGRAM on the runs of N seeds from SEED on
        crosscheck long PROGRAM N SEED      the same over a great many runs, most of them small, with progress
        crosscheck cases PROGRAM            compare PROGRAM on the named cases
+       crosscheck records PROGRAM N SEED   compare PROGRAM, which prints account records, on both
+       crosscheck read-records FILE        print the records that are expected of it
        crosscheck time PROGRAM ROUNDS      time PROGRAM and the second engine on the largest run that fits
        crosscheck examples FOLDER          write the runs that ship with the repository, with their readings
        crosscheck stored FOLDER            write what the program of crates/stored_runs, the FOLDER, reads and prints
-PROGRAM is a command that reads a run on standard input and prints its reading.";
+PROGRAM is a command that reads a run on standard input and prints its reading, or its account records.";
 
 fn main() -> ExitCode {
     let words: Vec<String> = env::args().skip(1).collect();
@@ -50,13 +52,21 @@ fn perform(words: &[&str]) -> io::Result<Option<bool>> {
             io::stdout().write_all(&reading(&input(file)?))?;
             Ok(Some(true))
         }
-        [command @ ("compare" | "long"), program, count, seed] => {
+        ["read-records", file] => {
+            io::stdout().write_all(&records::of_reading(&reading(&input(file)?)))?;
+            Ok(Some(true))
+        }
+        [command @ ("compare" | "long" | "records"), program, count, seed] => {
             let (Some(program), Ok(count), Ok(seed)) =
                 (Program::new(program), count.parse(), seed.parse())
             else {
                 return Ok(None);
             };
-            let all = if *command == "long" { compare::long } else { compare::seeds };
+            let all = match *command {
+                "long" => compare::long,
+                "records" => compare::records,
+                _ => compare::seeds,
+            };
             all(&program, count, seed).map(Some)
         }
         ["time", program, rounds] => {
