@@ -1,5 +1,10 @@
 //! The boundary of the static library: the one place with `unsafe`.
 //!
+//! A [`Ledger`](crate::Ledger) makes these calls with buffers that suffice. They are public for a caller that lends buffers
+//! of its own: one that is too short gets refusal 16, and what lies behind the least lengths of `docs/BUFFERS.md` is left
+//! alone. `numbers` are the 22 that a ledger is, all 0 at first. `told` gets two numbers: a refusal's place or the next
+//! offset, and a value.
+//!
 //! A slice goes over as a pointer and a length. The library asks nothing of its arguments but that the slices are valid
 //! and that one which it writes overlaps no other; references have both of themselves. Contents and lengths are
 //! unconstrained: every call answers on any of them.
@@ -10,22 +15,31 @@ mod tests;
 /// What a ledger keeps from call to call.
 #[derive(Clone, Debug, Default, PartialEq)]
 pub struct Kept {
+    /// Balances, then the bodies of the transactions.
     pub sheet: Vec<u8>,
+    /// The rank of every block.
     pub ranks: Vec<u32>,
+    /// The cut of every block, sixteen entries each.
     pub cuts: Vec<u16>,
+    /// The citations of every block, 32 places each.
     pub cites: Vec<u16>,
+    /// Which of them book a good part.
     pub good: Vec<u8>,
 }
 
 /// Working space: what it holds between calls means nothing.
 #[derive(Clone, Debug, Default, PartialEq)]
 pub struct Working {
+    /// For every transaction its citations, and those that failed.
     pub counts: Vec<u32>,
+    /// What every transaction is.
     pub table: Vec<u8>,
+    /// A global log.
     pub order: Vec<u16>,
 }
 
 impl Kept {
+    /// The bytes of all five.
     pub fn bytes(&self) -> usize {
         size_of_val(&self.sheet[..])
             + size_of_val(&self.ranks[..])
@@ -36,6 +50,7 @@ impl Kept {
 }
 
 impl Working {
+    /// The bytes of all three.
     pub fn bytes(&self) -> usize {
         size_of_val(&self.counts[..]) + size_of_val(&self.table[..]) + size_of_val(&self.order[..])
     }

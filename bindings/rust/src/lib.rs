@@ -36,13 +36,14 @@
 //! # Memory
 //!
 //! The library owns none. A [`Ledger`] lends it buffers, sized by the head of the sheet: at most 394,240 bytes, and
-//! always as long as a call asks, so that refusal 16 does not occur here.
+//! always as long as a call asks, so that refusal 16 does not occur with it. [`ffi`] has the same calls for a caller that
+//! lends its own.
 
 #![deny(unsafe_code)]
 #![warn(missing_docs)]
 
 #[allow(unsafe_code)]
-mod ffi;
+pub mod ffi;
 mod ledger;
 mod values;
 

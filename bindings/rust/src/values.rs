@@ -90,7 +90,7 @@ pub enum Settlement {
 /// | 13 | a citation's transaction is not on the sheet | its place in the list |
 /// | 14 | it has no part in this instance | its place in the list |
 /// | 15 | this instance has cited it already | its place in the list |
-/// | 16 | a lent buffer is too short (not through this wrapper) | the least length |
+/// | 16 | a lent buffer is too short (not with a [`Ledger`](crate::Ledger)) | the least length |
 /// | 17 | the instance has 128 blocks | 0 |
 #[derive(Clone, Copy, Debug, PartialEq, Eq)]
 pub struct Refusal {

@@ -39,6 +39,9 @@ pub struct Counts {
     pub readings: u64,
     /// Runs delivered again in another order.
     pub replays: u64,
+    /// Calls with a short buffer, and with longer ones than there have to be.
+    pub short: u64,
+    pub lent: u64,
 }
 
 impl Display for Counts {
@@ -46,7 +49,8 @@ impl Display for Counts {
         write!(
             out,
             "{} runs ({} with a complete sheet, {} sheet slips), {} offers as slips and {} as values \
-             ({} accepted), {} times all readings, {} replays",
+             ({} accepted), {} times all readings, {} replays, {} calls with short buffers and {} with \
+             longer ones",
             self.runs,
             self.complete,
             self.sheet_slips,
@@ -54,7 +58,9 @@ impl Display for Counts {
             self.values,
             self.accepted,
             self.readings,
-            self.replays
+            self.replays,
+            self.short,
+            self.lent
         )
     }
 }
@@ -85,7 +91,7 @@ pub fn check<S: Subject>(
 }
 
 /// An error that names both sides, unless they are the same.
-fn same<T: PartialEq + Debug>(
+pub fn same<T: PartialEq + Debug + ?Sized>(
     got: &T,
     expected: &T,
     what: impl FnOnce() -> String,

@@ -6,10 +6,16 @@
 //!
 //! * [`subject`] — the calls that are compared, of the library and of others;
 //! * [`expect`] — the second engine's answers and readings, in the same types;
-//! * [`check`] — the comparisons of one run.
+//! * [`check`] — the comparisons of one run;
+//! * [`boundary`] — the same calls with the buffers that they are lent;
+//! * [`lengths`] — refusal 16, and buffers longer than they have to be;
+//! * [`layout`] — what the lent buffers hold.
 
+pub mod boundary;
 pub mod check;
 pub mod expect;
+pub mod layout;
+pub mod lengths;
 pub mod subject;
 
 pub use check::{check, Counts};

@@ -5,7 +5,8 @@ use std::process::ExitCode;
 use std::{env, fs};
 
 use crosscheck::generate::random::Random;
-use crosscheck_library::{bytes, check, Counts};
+use crosscheck_library::boundary::Library;
+use crosscheck_library::{bytes, check, lengths, Counts};
 use rugxeni::Ledger;
 
 fn main() -> ExitCode {
@@ -21,7 +22,9 @@ fn main() -> ExitCode {
         let run = bytes(seed);
         // The seed's run is made of the same numbers: these are others.
         let mut random = Random::new(!seed);
-        if let Err(difference) = check(&run, &mut random, &mut counts, Ledger::new) {
+        let checked = check(&run, &mut random, &mut counts, Ledger::new)
+            .and_then(|()| lengths::check(&run, &mut random, &mut counts, &Library));
+        if let Err(difference) = checked {
             let file = format!("difference-{seed}.run");
             let kept = match fs::write(&file, &run) {
                 Ok(()) => format!("see {file}"),

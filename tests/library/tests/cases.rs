@@ -3,7 +3,8 @@
 
 use crosscheck::cases;
 use crosscheck::generate::random::Random;
-use crosscheck_library::{check, Counts};
+use crosscheck_library::boundary::Library;
+use crosscheck_library::{check, lengths, Counts};
 use rugxeni::{slip_end, Ledger, Offer, Refusal, Settlement};
 
 /// A run's text, as `readrun` prints it, taken from the library's calls.
@@ -77,5 +78,7 @@ fn calls_are_those_of_the_second_engine() {
         let mut random = Random::new(number as u64);
         let checked = check(&case.run, &mut random, &mut counts, Ledger::new);
         assert_eq!(checked, Ok(()), "{}", case.name);
+        let checked = lengths::check(&case.run, &mut random, &mut counts, &Library);
+        assert_eq!(checked, Ok(()), "{}, with buffers of other lengths", case.name);
     }
 }

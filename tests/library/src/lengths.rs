@@ -1,0 +1,309 @@
+//! Refusal 16, call by call: the library's own calls with buffers that are too
+//! short, as long as they have to be, and longer.
+//!
+//! * A short buffer gives 16 with its least length, the first in the call's
+//!   order, and nothing is changed. For an offer and for loading this comes
+//!   before all else, but no byte left is no offer, and nothing is loaded once
+//!   the sheet is complete; a reading gives 3 before it.
+//! * What lies behind the least lengths is left alone, and they may be other
+//!   lengths at each call: the ledger goes on as before.
+//! * At the end the buffers hold what `docs/BUFFERS.md` says, the outcomes of
+//!   parts among it.
+
+use crosscheck::engine::format::{self, slip_at};
+use crosscheck::engine::{Answer, Block, Draft, Engine, Head, Refusal};
+use crosscheck::generate::random::Random;
+
+use crate::boundary::{Boundary, Buffer, Call, Lent, BUFFERS, READINGS};
+use crate::check::{same, Counts, Difference};
+use crate::layout;
+
+/// Nothing left, to load or to offer.
+const NOTHING_LEFT: u16 = 255;
+const TOO_SHORT: u16 = 16;
+
+/// About so many times in a sheet, and then among the blocks, every call is
+/// made with short buffers, and every reading with longer ones.
+const MOMENTS: u64 = 2;
+
+/// The number that a call returns, and what it tells.
+type Returned = (u16, [u64; 2]);
+
+/// What a call lends, in its order, with the least lengths: the tables of
+/// `docs/BUFFERS.md`. All sizes are 0 before the head is known. `log` is the
+/// length of the global log.
+pub fn needs(call: &Call, head: &Head, log: usize) -> Vec<(Buffer, usize)> {
+    use Buffer::*;
+    let [m, a, g, t] = [head.m, head.a, head.g, head.t].map(usize::from);
+    let sheet = (Sheet, 8 * a + 100 * t);
+    let kept = [sheet, (Ranks, 128 * m), (Cuts, 2048 * m), (Cites, 4096 * m), (Good, 4096 * m)];
+    let working = [(Counts, 2 * t), (Table, t), (Order, 128 * m)];
+    let filled: &[(Buffer, usize)] = match call {
+        Call::Load(..) => return vec![sheet],
+        Call::OfferSlip(..) | Call::OfferValues(_) => return [&kept[..], &working].concat(),
+        Call::Log => return vec![kept[1], (Instances, log), (Sequences, log)],
+        Call::Accounts => &[(Free, a), (Held, a)],
+        Call::Registers => &[(Values, g)],
+        Call::Settlements => &[(Statuses, t)],
+        Call::Share => &[],
+    };
+    [&kept[..2], &kept[3..], &working, filled].concat()
+}
+
+/// Compares the calls of a boundary, with buffers of every length, with the
+/// second engine on a run.
+pub fn check(
+    run: &[u8],
+    random: &mut Random,
+    counts: &mut Counts,
+    boundary: &impl Boundary,
+) -> Result<(), Difference> {
+    let mut walk = Walk { boundary, lent: Lent::default(), engine: Engine::new(), random, counts };
+    let Some(at) = walk.sheet(run)? else {
+        return Ok(());
+    };
+    walk.blocks(run, at)?;
+    walk.engine.ledger().map_or(Ok(()), |ledger| layout::kept(ledger, &walk.lent))
+}
+
+/// A ledger on its way through a run.
+struct Walk<'a, B> {
+    boundary: &'a B,
+    lent: Lent,
+    engine: Engine,
+    random: &'a mut Random,
+    counts: &'a mut Counts,
+}
+
+impl<B: Boundary> Walk<'_, B> {
+    /// The sheet. Gives where the blocks begin, `None` if it was turned away.
+    fn sheet(&mut self, run: &[u8]) -> Result<Option<usize>, Difference> {
+        let mut at = 0;
+        let block = any_block();
+        while self.engine.ledger().is_err() {
+            let slips = u64::from(self.head().t) + 2;
+            if self.random.below(slips) < MOMENTS {
+                let calls = [
+                    Call::Load(run, at),
+                    Call::Load(run, run.len()),
+                    Call::OfferSlip(run, at),
+                    Call::OfferSlip(run, run.len()),
+                    Call::OfferValues(&block),
+                ];
+                self.moment(&calls)?;
+            }
+            let sizes = self.lengthen();
+            let next = self.engine.feed(run, at);
+            let expected = next.map_or_else(refused, |next| (0, [next as u64, 0]));
+            self.make(&Call::Load(run, at), &sizes, expected)?;
+            match next {
+                Ok(next) => at = next,
+                Err(_) => return Ok(None),
+            }
+        }
+        Ok(Some(at))
+    }
+
+    /// The blocks, each as a slip or as values.
+    fn blocks(&mut self, run: &[u8], mut at: usize) -> Result<(), Difference> {
+        let head = self.head();
+        let slips = (run.len() - at) as u64 / 18 + 1;
+        let mut block = any_block();
+        while at < run.len() {
+            let slip = slip_at(run, at).ok();
+            let values = slip.filter(|slip| slip.kind == 4);
+            let values = values.and_then(|slip| format::block(slip.body, head.m));
+            let by_values = values.is_some() && self.random.chance(50);
+            block = values.unwrap_or(block);
+            let moment = self.random.below(slips) < MOMENTS;
+            if moment {
+                self.moment(&after_the_sheet(run, at, &block))?;
+            }
+            let sizes = self.lengthen();
+            let before = (moment || self.random.chance(5)).then(|| self.lent.clone());
+            let call = if by_values { Call::OfferValues(&block) } else { Call::OfferSlip(run, at) };
+            let expected = match by_values {
+                true => self.engine.offer_values(&block),
+                false => self.engine.offer_slip(run, at),
+            };
+            let expected = answered(expected);
+            self.make(&call, &sizes, expected)?;
+            if let Some(mut before) = before.filter(|_| expected.0 != 0) {
+                self.same_as(&mut before).map_err(|text| format!("refused, {call:?} {text}"))?;
+            }
+            // What follows a slip of no known length cannot be found.
+            at = slip.map_or(run.len(), |slip| slip.next);
+        }
+        self.moment(&after_the_sheet(run, run.len(), &block))
+    }
+
+    fn head(&self) -> Head {
+        match self.engine.draft() {
+            Draft::Empty => Head { m: 0, a: 0, g: 0, t: 0 },
+            Draft::Headed(head) => *head,
+            Draft::Begun(sheet) => sheet.head,
+        }
+    }
+
+    /// Lends what the ledger keeps and works in anew: the least lengths or a
+    /// little more, working space with anything in it. Gives the least lengths.
+    fn lengthen(&mut self) -> Vec<(Buffer, usize)> {
+        let sizes = needs(&Call::OfferSlip(&[], 0), &self.head(), 0);
+        for (buffer, least) in &sizes {
+            let more = self.random.pick(&[0, 0, 1, 3]);
+            self.lent.lengthen(*buffer, *least, 0);
+            if [Buffer::Counts, Buffer::Table, Buffer::Order].contains(buffer) {
+                self.lent.fill(*buffer, self.random.pick(&[0, 1, 2, 255]));
+            }
+            self.lent.lengthen(*buffer, *least, more);
+        }
+        sizes
+    }
+
+    fn call(&mut self, call: &Call) -> Returned {
+        self.lent.told = [u64::MAX; 2];
+        let number = self.boundary.call(call, &mut self.lent);
+        (number, self.lent.told)
+    }
+
+    /// Makes a call whose buffers suffice: it returns what is expected and
+    /// leaves alone what lies behind the least lengths.
+    fn make(
+        &mut self,
+        call: &Call,
+        sizes: &[(Buffer, usize)],
+        expected: Returned,
+    ) -> Result<(), Difference> {
+        self.counts.lent += 1;
+        let got = self.call(call);
+        same(&got, &expected, || format!("{call:?}"))?;
+        for (buffer, least) in sizes {
+            if !self.lent.is_guarded(*buffer, *least) {
+                return Err(format!("{call:?} wrote behind the least length of {buffer:?}"));
+            }
+        }
+        Ok(())
+    }
+
+    /// The given calls and all readings with short buffers, then all readings
+    /// with buffers that suffice.
+    fn moment(&mut self, calls: &[Call]) -> Result<(), Difference> {
+        let log = self.engine.log().map_or(0, |log| log.len());
+        let mut sizes = self.lengthen();
+        for reading in READINGS {
+            for (buffer, least) in needs(&reading, &self.head(), log) {
+                if sizes.iter().all(|(other, _)| *other != buffer) {
+                    self.lent.shorten(buffer, 0);
+                    let more = self.random.pick(&[0, 1, 3]);
+                    self.lent.lengthen(buffer, 0, least + more);
+                    sizes.push((buffer, least));
+                }
+            }
+        }
+        for call in calls.iter().chain(&READINGS) {
+            self.short(call, log)?;
+        }
+        self.readings(&sizes)
+    }
+
+    /// A call with each buffer in turn one place short, and with no place at
+    /// all, and with several short at once.
+    fn short(&mut self, call: &Call, log: usize) -> Result<(), Difference> {
+        let mut before = self.lent.clone();
+        let needs = needs(call, &self.head(), log);
+        let needs: Vec<(Buffer, usize)> = needs.into_iter().filter(|need| need.1 > 0).collect();
+        let mut shortened: Vec<Vec<(Buffer, usize)>> = Vec::new();
+        for (buffer, least) in &needs {
+            shortened.push(vec![(*buffer, 0)]);
+            shortened.push(vec![(*buffer, least - 1)]);
+        }
+        for _ in 0..3 {
+            let mut several = needs.clone();
+            several.retain(|_| self.random.chance(60));
+            several.iter_mut().for_each(|(_, length)| *length = self.random.place(*length));
+            shortened.push(several);
+        }
+        for lengths in shortened.iter().filter(|lengths| !lengths.is_empty()) {
+            self.counts.short += 1;
+            lengths.iter().for_each(|(buffer, length)| self.lent.shorten(*buffer, *length));
+            let first = needs.iter().find(|(buffer, _)| *buffer == lengths[0].0);
+            let least = first.map_or(0, |(_, least)| *least as u64);
+            let expected = self.earlier(call).unwrap_or((TOO_SHORT, [least, 0]));
+            let got = self.call(call);
+            let what = || format!("{call:?} with {lengths:?}");
+            same(&got, &expected, what)?;
+            self.same_as(&mut before).map_err(|text| format!("{} {text}", what()))?;
+            lengths.iter().for_each(|(buffer, _)| self.lent.restore(*buffer, &mut before));
+        }
+        Ok(())
+    }
+
+    /// What comes before 16.
+    fn earlier(&self, call: &Call) -> Option<Returned> {
+        let complete = self.engine.ledger().is_ok();
+        match call {
+            Call::Load(..) => complete.then_some((NOTHING_LEFT, [0, 0])),
+            Call::OfferSlip(bytes, at) => (*at >= bytes.len()).then_some((NOTHING_LEFT, [0, 0])),
+            Call::OfferValues(_) => None,
+            _ => (!complete).then_some((3, [0, 0])),
+        }
+    }
+
+    /// Nothing but what is told has changed; buffers may be shorter.
+    fn same_as(&mut self, before: &mut Lent) -> Result<(), Difference> {
+        same(&self.lent.numbers, &before.numbers, || "left the numbers".to_string())?;
+        match BUFFERS.iter().find(|buffer| !self.lent.begins(**buffer, before)) {
+            Some(buffer) => Err(format!("changed {buffer:?}")),
+            None => Ok(()),
+        }
+    }
+
+    /// All readings: what they fill, and what they leave alone.
+    fn readings(&mut self, sizes: &[(Buffer, usize)]) -> Result<(), Difference> {
+        let (numbers, kept) = (self.lent.numbers, self.lent.kept.clone());
+        let value = |reading: &Call| match reading {
+            Call::Share => self.engine.share().map(u64::from),
+            Call::Log => self.engine.log().map(|log| log.len() as u64),
+            _ => self.engine.ledger().map(|_| 0),
+        };
+        let expected = READINGS.map(|reading| {
+            let value = value(&reading);
+            (reading, value.map_or_else(refused, |value| (0, [0, value])))
+        });
+        for (reading, expected) in &expected {
+            self.make(reading, sizes, *expected)?;
+        }
+        if (numbers, &kept) != (self.lent.numbers, &self.lent.kept) {
+            return Err("readings changed what the ledger keeps".to_string());
+        }
+        self.engine.ledger().map_or(Ok(()), |ledger| layout::filled(ledger, &self.lent))
+    }
+}
+
+/// A block that is turned away whatever the sheet is: instance 16.
+fn any_block() -> Block {
+    Block { instance: 16, number: 0, rank: 0, cut: [0; 16], citations: vec![0; 33] }
+}
+
+/// The calls on a complete sheet, at an offset.
+fn after_the_sheet<'a>(run: &'a [u8], at: usize, block: &'a Block) -> [Call<'a>; 5] {
+    [
+        Call::Load(run, 0),
+        Call::OfferSlip(run, at),
+        // The head, which is not due; and no byte left.
+        Call::OfferSlip(run, 0),
+        Call::OfferSlip(run, run.len()),
+        Call::OfferValues(block),
+    ]
+}
+
+fn refused(refusal: Refusal) -> Returned {
+    (refusal.number.into(), [refusal.place, 0])
+}
+
+fn answered(answer: Answer) -> Returned {
+    match answer {
+        Answer::Accepted { .. } => (0, [0, 0]),
+        Answer::Refused(refusal) => refused(refusal),
+    }
+}
