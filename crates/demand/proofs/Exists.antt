@@ -12,7 +12,7 @@ use Rattle.demand.proofs.Anew.{anew-beside}
 use Rattle.demand.proofs.Demand3.{Q, begins}
 use Rattle.demand.proofs.Lengths.{offered-lengths}
 use Rattle.demand.proofs.Opened.{opened}
-use Rattle.demand.proofs.Replies.{keptLeft, offers, result}
+use Rattle.demand.proofs.Replies.{built, keptLeft, result}
 use Rattle.demand.proofs.Steps.{Beside, offer-answer, offer-beside, short-beside, short-told}
 use Rattle.demand.specs.Chain.{Calls, Event, InUse, Opening, SameFront, SameLedger, anew, offer, offered, short, stop}
 use Rattle.demand.specs.Exists.{ChainsExist, Lends, eventsFrom}
@@ -123,7 +123,7 @@ module _ (S : Sheet) (P : ProperSheet S) (l : Ledger) (K : Kept) (L : Logs) (I :
       let B = into l K J in
       let I' = anew-beside l K B s S P L I in
       let lent' : lentOf o ≡ lengthsOf B W = lent ∙ sym (into-lengths l K J W) in
-      let p = offers l B W o in
+      let p = built l B W o in
       record {
         ledger = result l B o .ledger;
         buffers = keptLeft l B o;
@@ -135,7 +135,7 @@ module _ (S : Sheet) (P : ProperSheet S) (l : Ledger) (K : Kept) (L : Logs) (I :
 
   refused-short : isAccepted (lentAnswer (offerNeeds (sheetOf l K)) (lentOf o)) ≡ false → Goes S l K L o
   refused-short few =
-      let p = offers l J W o in
+      let p = built l J W o in
       record {
         ledger = result l J o .ledger;
         buffers = K;

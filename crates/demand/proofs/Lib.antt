@@ -6,5 +6,4 @@ pub mod Opened
 pub mod Steps
 pub mod Anew
 pub mod Demand3
-pub mod Joined
 pub mod Exists

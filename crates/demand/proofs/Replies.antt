@@ -148,8 +148,8 @@ keptLeft l K o = kept (K .sheet) (cellsLeft l K o .ranks) (cellsLeft l K o .cuts
 abbrev pub result : Ledger → Kept → Offer → Offered
 result l K o = record { answer = replies l K o .0; ledger = record { loading = l .loading; heights = cellsLeft l K o .heights } }
 
-pub offers : (l : Ledger) (K : Kept) (W : Buffers) (o : Offer) → Offers l K W o (result l K o) (keptLeft l K o) W
-offers l K W o = record {
+pub built : (l : Ledger) (K : Kept) (W : Buffers) (o : Offer) → Offers l K W o (result l K o) (keptLeft l K o) W
+built l K W o = record {
   answered = replies l K o .1;
   loading = refl;
   sheet = refl;

@@ -29,7 +29,7 @@ use Rattle.plain.specs.Plain.{answer, blockAnswer, citeAnswer, frontAnswer, idl
 use Rattle.plain.specs.Report.{reportOf}
 use Rattle.refusals.specs.Refusals.{refusalNumber, refusalPlace}
 use Rattle.refusals.specs.declared.Refusal.{Refusal}
-use Rattle.replay.proofs.ChainLaws.{least-lent}
+use Rattle.replay.proofs.LentLaws.{least-lent}
 use Rattle.replay.specs.Opening.{Opened, ended, noLoading, openFrom, sheet}
 use Rattle.replay.specs.Reading.{answerLine, blocksText, endOf, endsOutput, frameOffer, openedText, readingText}
 use Rattle.sheets.specs.Sheet.{Sheet, txCount}

@@ -1,6 +1,8 @@
 -- A run's sheet opened and its blocks offered, step by step.
 pub mod OpenLaws
 pub mod LineLaws
-pub mod ChainLaws
+pub mod LentLaws
 pub mod PutLaws
+pub mod CourseLaws
 pub mod WorkedRun
+pub mod Exists

@@ -1,195 +1,32 @@
--- The blocks of a run, offered one after the other: what was written, and what the rest of the run says.
+-- The blocks of a run, offered one after the other: each turn of the loop follows the definition.
 -- Assumes nothing.
-use Prim.Native.Nat.{_+_, _-_, _<_, _≤_, suc, zero, ℕ}
-use borrow.Author.Tests.{le-leb, lt-leb}
-use lib.Dec.{leb, ltb}
+use Prim.Native.Nat.{_+_, _-_, _<_, _≤_, suc, ℕ}
+use borrow.Author.Tests.{le-leb, leb-false, lt-leb}
+use lib.Dec.{leb}
 use lib.ListN.{length}
 use mathlib.Core.Bool.{Bool, false, true}
-use mathlib.Core.List.{List, [], _++_, _∷_, append-assoc}
+use mathlib.Core.List.{List, [], _++_, append-assoc, append-nil}
 use mathlib.Core.Path.{_∙_, _≡_, ap, ap₂, refl, subst, sym}
 use native.Mathlib.Omega.{arith}
-use Rattle.demand.proofs.Demand3.{Q, comes}
-use Rattle.demand.proofs.Steps.{Beside, offer-answer}
-use Rattle.demand.specs.Chain.{Event, InUse, offered}
-use Rattle.demand.specs.Claim.{logsOf}
-use Rattle.frames.proofs.FrameLaws.{frame-is}
-use Rattle.frames.specs.Frame.{bodyAt, frameAt, framed}
-use Rattle.frames.specs.declared.frame.Framed.{Framed}
-use Rattle.escrow.specs.Outcome.{History}
-use Rattle.fields.specs.Number.{le}
+use Rattle.frames.specs.Frame.{bodyAt, frameAt}
+use Rattle.frames.specs.declared.step.Loading.{Loading}
 use Rattle.offers.specs.Offering.{Offers, answerFrom, replyOf}
 use Rattle.offers.specs.declared.answer.Offered.{Offered}
-use Rattle.plain.proofs.AnswerLaws.{then-pass}
-use Rattle.plain.proofs.FrameOffers.{parsed}
-use Rattle.plain.specs.Answer.{Answer, _then_, accepted, noOffer, refused}
-use Rattle.plain.specs.Logs.{Logs, Values, historyOf}
-use Rattle.plain.specs.Offers.{Parsed, blockOf, frame, offerNeeds, parse, parsedFrame, valuesIn, wrong}
-use Rattle.plain.specs.Offers as offers
-use Rattle.plain.specs.Plain.{answer, frontAnswer, idleAnswer, lentAnswer, next, parsedAnswer}
-use Rattle.plain.specs.Report.{reportOf}
-use Rattle.refusals.specs.Refusals.{refusalNumber, refusalPlace}
-use Rattle.refusals.specs.declared.Refusal.{Refusal}
-use Rattle.refusals.specs.declared.Refusal.the-variants.{BadLength, Short}
-use Rattle.replay.proofs.ChainLaws.{ample-lent, ample-whole, answer-lent, least-lent, logs-more, next-lent, use-more}
-use Rattle.replay.specs.Inner.{Ample, PutsBlocks}
-use Rattle.replay.specs.Reading.{answerLine, blocksText, endOf, endsOutput, frameOffer}
-use Rattle.replay.specs.declared.blocks.Blocks.{Blocks}
+use Rattle.plain.specs.Answer.{Answer, isAccepted}
+use Rattle.plain.specs.Offers.{frame, valuesIn}
+use Rattle.replay.specs.Inner.{Course, PutsBlocks, behind, cellsAfter, courseFrom, courseOf, keptWith, ledgerWith, lineAt, stopped, stopsAt}
+use Rattle.replay.specs.Reading.{answerLine, endOf}
 use Rattle.settlement.specs.Tables.{Buffers}
-use Rattle.sheets.proofs.SheetCells.{sheet-m}
-use Rattle.sheets.specs.Sheet.{Sheet}
-use Rattle.state.specs.Cells.{pastIn}
-use Rattle.state.specs.State.{Kept, cellsOf, complete, lengthsOf, sheetOf, sizesOf}
+use Rattle.sheets.specs.declared.sheet.Sizes.{Sizes}
+use Rattle.state.specs.Cells.{Cells}
+use Rattle.state.specs.State.{Beyond, Kept, kept, lengthsOf, sizesOf}
 use Rattle.state.specs.declared.ledger.Ledger.{Ledger}
 use Rattle.sums.proofs.TestLaws.{pick-false, pick-true}
 use Rattle.sums.specs.Test.{pick}
 use Rattle.text.proofs.WroteLaws.{wrote-as, wrote-none, wrote-then}
-use Rattle.text.specs.Tail.{tailText}
 use Rattle.text.specs.Wrote.{Wrote}
 
--- ---- an answer that does not end the output is that of a whole frame
-
--- a frame is refused by 1 or 2
-low-number : (t u v w x : Bool) (at k start end : ℕ) (r : Refusal)
-    → pick t Framed.End (pick u (Framed.Refused (Short at)) (pick v (Framed.Refused (BadLength at)) (pick w (Framed.Refused (BadLength at)) (pick x (Framed.Refused (Short at)) (Framed.Whole k start end))))) ≡ Framed.Refused r
-    → leb (refusalNumber r) 7 ≡ true
-unfolding pick
-low-number true u v w x at k start end r e = absurd (let z : _≡_ {A = ℕ} 0 1 = cc in omega arith)
-low-number false true v w x at k start end r e = let z : r ≡ Short at = cc in rw z refl
-low-number false false true w x at k start end r e = let z : r ≡ BadLength at = cc in rw z refl
-low-number false false false true x at k start end r e = let z : r ≡ BadLength at = cc in rw z refl
-low-number false false false false true at k start end r e = let z : r ≡ Short at = cc in rw z refl
-low-number false false false false false at k start end r e = absurd (let z : _≡_ {A = ℕ} 0 1 = cc in omega arith)
-
-frame-low : (run : List ℕ) (at : ℕ) (r : Refusal) → frameAt run at ≡ Framed.Refused r → leb (refusalNumber r) 7 ≡ true
-unfolding frameAt
-frame-low run at r e = low-number (leb (length run) at) (ltb (length run) (at + 4)) (ltb (le 4 run at) 2) (ltb 8194 (le 4 run at)) (ltb (length run) (at + 4 + le 4 run at)) at _ _ _ r e
-
-module _ (S : Sheet) (H : History) (lent run : List ℕ) (at : ℕ) (left : at < length run) (long : lentAnswer (offerNeeds S) lent ≡ accepted) where
-  -- what the frame's own refusal leads to
-  stopped : (r : Refusal) → parse S run at ≡ wrong r → answer S H (frame lent run at) ≡ refused (refusalNumber r) (refusalPlace r)
-  unfolding answer idleAnswer frontAnswer _then_
-  stopped r e = rw (pick-false _ noOffer accepted (lt-leb (length run) at left), long, e) refl
-
-  never : (t : Bool) → t ≡ true → t ≡ false → ⊥
-  never t e q = let z : _≡_ {A = ℕ} 0 1 = cc in omega arith
-
-  pub goes-on : endsOutput (answer S H (frame lent run at)) ≡ false → at < endOf (frameAt run at) at
-  unfolding parse endsOutput
-  goes-on e = by-frame (frameAt run at) refl
-    where
-      by-frame : (f : Framed) → frameAt run at ≡ f → at < endOf f at
-      by-frame (Framed.Whole k start end) q = let F = frame-is run at q in omega (arith, F .ends)
-      by-frame (Framed.Refused r) q = absurd (never _ (frame-low run at r q) (ap endsOutput (sym (stopped r (ap (parsedFrame (S .m) (bodyAt run at) at) q))) ∙ e))
-      by-frame Framed.End q = absurd (never _ refl (ap endsOutput (sym (stopped _ (ap (parsedFrame (S .m) (bodyAt run at) at) q))) ∙ e))
-
-  -- the block that is accepted is what the body says
-  accepted-values : answer S H (frame lent run at) ≡ accepted → blockOf (parse S run at) ≡ valuesIn (bodyAt run at) (S .m)
-  unfolding answer frontAnswer
-  accepted-values e = by-parsed (parse S run at) refl (then-pass _ _ (then-pass _ _ (then-pass _ _ e .1) .1) .0)
-    where
-      by-parsed : (p : Parsed) → parse S run at ≡ p → parsedAnswer p ≡ accepted → blockOf (parse S run at) ≡ valuesIn (bodyAt run at) (S .m)
-      by-parsed (offers.block b) q h = ap blockOf q ∙ sym (parsed S run at b q .0)
-      by-parsed (wrong r) q h = absurd (let z : _≡_ {A = ℕ} 0 1 = cc in omega arith)
-
-  pub line-is : (a : Answer) → a ≡ answer S H (frame lent run at) → answerLine (valuesIn (bodyAt run at) (S .m)) a ≡ answerLine (blockOf (parse S run at)) a
-  unfolding answerLine
-  line-is accepted e = ap (λ (b : Values). answerLine b accepted) (sym (accepted-values (sym e)))
-  line-is (refused n p) e = refl
-  line-is noOffer e = refl
-
--- so each turn of the loop comes further in the run
-pub comes-further : (l : Ledger) (K : Kept) (W : Buffers) (run : List ℕ) (at : ℕ) (a : Answer) → complete l ≡ true → Ample K W → at < length run
-    → a ≡ answerFrom l K (frame (lengthsOf K W) run at) → endsOutput a ≡ false → at < endOf (frameAt run at) at
-unfolding answerFrom
-comes-further l K W run at a e A left q f =
-    goes-on (sheetOf l K) (pastIn (cellsOf l K)) (lengthsOf K W) run at left (ample-whole l K W e A) (ap endsOutput (sym (q ∙ pick-true _ _ _ e)) ∙ f)
-
--- ---- the loop: what was written so far, and what the rest of the run says from here
-
-pub record Going (run : List ℕ) (at : ℕ) (l : Ledger) (K : Kept) (out : List ℕ) (place offset : ℕ) (l' : Ledger) (K' : Kept) (out' : List ℕ) (place' : ℕ) : Type 0 where
-  pub goes : (S : Sheet) (es : List Event) → InUse S es l K
-      → (es' : List Event) × InUse S es' l' K' × (text : List ℕ) × Wrote out place text out' place'
-      × (fuel : ℕ) × (length run ≤ offset + fuel) × (text ++ blocksText (suc fuel) S run offset (logsOf S es') ≡ blocksText (suc (length run)) S run at (logsOf S es))
-
-pub going-first : (run : List ℕ) (at : ℕ) (l : Ledger) (K : Kept) (out : List ℕ) (place : ℕ) → Going run at l K out place at l K out place
-going-first run at l K out place = record { goes = λ S es U. (es, U, [], wrote-none out place, length run, omega arith, refl) }
-
-module _ (run : List ℕ) (at : ℕ) (l₀ : Ledger) (K₀ : Kept) (out₀ : List ℕ) (place₀ offset : ℕ) (l : Ledger) (K : Kept) (out : List ℕ) (place : ℕ) (G : Going run at l₀ K₀ out₀ place₀ offset l K out place) where
-  -- no byte is left: the report's lines follow
-  pub going-end : complete l ≡ true → length run ≤ offset → PutsBlocks run at l₀ K₀ out₀ place₀ (record { ledger = l; place = place; ended = false }) K out
-  unfolding blocksText pick
-  going-end c h = record {
-    whole = c;
-    puts = λ S es U.
-        let (es', U', text, w, fuel, en, e) = G .goes S es U in
-        (es', U', text, w, ap (λ (x : List ℕ). text ++ x) (sym (pick-true (leb (length run) offset) _ _ (le-leb (length run) offset h))) ∙ e);
-  }
-
-  module _ (W W' : Buffers) (r : Offered) (K' : Kept) (out' : List ℕ) (place' m : ℕ) (more : offset < length run) (A : Ample K W)
-      (p : Offers l K W (frame (lengthsOf K W) run offset) r K' W') (me : m ≡ r .ledger .loading .m)
-      (w : Wrote out place (answerLine (valuesIn (bodyAt run offset) m) (replyOf (r .answer))) out' place') where
-    module _ (S : Sheet) (es' : List Event) (U : InUse S es' l K) where
-      B : Beside S l K (logsOf S es')
-      B = comes S es' l K U .1
-
-      -- the answer is the plain ledger's, and the line is its line
-      same : replyOf (r .answer) ≡ answer S (historyOf (logsOf S es')) (frameOffer S run offset)
-      same = offer-answer S (Q S es' l K U) l K W _ r K' W' (logsOf S es') p refl B
-          ∙ answer-lent S (lengthsOf K W) (offerNeeds S) run offset (ample-lent S (Q S es' l K U) K W A) (least-lent S) (logsOf S es')
-
-      m-is : m ≡ S .m
-      m-is = me ∙ ap (λ (x : _). x .m) (p .loading) ∙ sym (ap (λ (T : Sheet). T .m) (B .sheet) ∙ sheet-m (K .sheet) (sizesOf l))
-
-      line : answerLine (valuesIn (bodyAt run offset) m) (replyOf (r .answer))
-          ≡ answerLine (offers.offered S (frameOffer S run offset)) (answer S (historyOf (logsOf S es')) (frameOffer S run offset))
-      line = ap (λ (k : ℕ). answerLine (valuesIn (bodyAt run offset) k) (replyOf (r .answer))) m-is ∙ line-is S (historyOf (logsOf S es')) (offerNeeds S) run offset more (least-lent S) (replyOf (r .answer)) same
-          ∙ ap (answerLine (offers.offered S (frameOffer S run offset))) same
-
-      logs : logsOf S (es' ++ (offered (frame (lengthsOf K W) run offset) (replyOf (r .answer)) ∷ [])) ≡ next S (logsOf S es') (frameOffer S run offset)
-      logs = logs-more S es' _ _ ∙ next-lent S (lengthsOf K W) (offerNeeds S) run offset (ample-lent S (Q S es' l K U) K W A) (least-lent S) (logsOf S es')
-
-      -- the text from here: the line, and the rest unless the output ends
-      here : (fuel : ℕ) → blocksText (suc fuel) S run offset (logsOf S es')
-          ≡ answerLine (valuesIn (bodyAt run offset) m) (replyOf (r .answer))
-          ++ pick (endsOutput (replyOf (r .answer))) [] (blocksText fuel S run (endOf (frameAt run offset) offset) (logsOf S (es' ++ (offered (frame (lengthsOf K W) run offset) (replyOf (r .answer)) ∷ []))))
-      unfolding blocksText
-      here fuel = pick-false (leb (length run) offset) _ _ (lt-leb (length run) offset more) ∙ rw (line, logs, same) refl
-
-    -- the output ends with this line
-    pub going-ends : complete (r .ledger) ≡ true → endsOutput (replyOf (r .answer)) ≡ true → PutsBlocks run at l₀ K₀ out₀ place₀ (record { ledger = r .ledger; place = place'; ended = true }) K' out'
-    unfolding pick
-    going-ends c t = record {
-      whole = c;
-      puts = λ S es U₀.
-          let (es', U, text, v, fuel, en, e) = G .goes S es U₀ in (
-            es' ++ (offered (frame (lengthsOf K W) run offset) (replyOf (r .answer)) ∷ []),
-            use-more S es' l K K' W W' run offset r U p,
-            text ++ answerLine (valuesIn (bodyAt run offset) m) (replyOf (r .answer)),
-            wrote-then v w,
-            append-assoc text (answerLine (valuesIn (bodyAt run offset) m) (replyOf (r .answer))) []
-                ∙ ap (λ (x : List ℕ). text ++ x) (sym (here S es' U fuel ∙ ap (λ (x : List ℕ). answerLine (valuesIn (bodyAt run offset) m) (replyOf (r .answer)) ++ x) (pick-true _ _ _ t))) ∙ e,
-          );
-    }
-
-    -- it goes on behind the frame
-    pub going-on : offset < endOf (frameAt run offset) offset → endsOutput (replyOf (r .answer)) ≡ false → Going run at l₀ K₀ out₀ place₀ (endOf (frameAt run offset) offset) (r .ledger) K' out' place'
-    going-on far f = record {
-      goes = λ S es U₀.
-          let (es', U, text, v, fuel, en, e) = G .goes S es U₀ in
-          let q : fuel ≡ suc (fuel - 1) = omega arith in (
-            es' ++ (offered (frame (lengthsOf K W) run offset) (replyOf (r .answer)) ∷ []),
-            use-more S es' l K K' W W' run offset r U p,
-            text ++ answerLine (valuesIn (bodyAt run offset) m) (replyOf (r .answer)),
-            wrote-then v w,
-            fuel - 1,
-            omega arith,
-            append-assoc text (answerLine (valuesIn (bodyAt run offset) m) (replyOf (r .answer))) _
-                ∙ ap (λ (x : List ℕ). text ++ x) (sym (here S es' U fuel ∙ ap (λ (x : List ℕ). answerLine (valuesIn (bodyAt run offset) m) (replyOf (r .answer)) ++ x)
-                (pick-false _ _ _ f ∙ ap (λ (k : ℕ). blocksText k S run (endOf (frameAt run offset) offset) (logsOf S (es' ++ (offered (frame (lengthsOf K W) run offset) (replyOf (r .answer)) ∷ [])))) q))) ∙ e,
-          );
-    }
-
--- ---- one turn of the loop
+-- ---- lengths
 
 -- the same lengths
 pub record Sized (K K' : Kept) (W W' : Buffers) (out out' : List ℕ) : Type 0 where
@@ -214,53 +51,158 @@ sized-then a b = record {
   text = b .text ∙ a .text;
 }
 
-ample-sized : {K K' : Kept} {W W' : Buffers} {o o' : List ℕ} → Ample K W → K' .sheet ≡ K .sheet → Sized K K' W W' o o' → Ample K' W'
-ample-sized A e s = record {
-  sheet = omega (arith, A .sheet, ap length e);
-  ranks = omega (arith, A .ranks, s .ranks);
-  cuts = omega (arith, A .cuts, s .cuts);
-  cites = omega (arith, A .cites, s .cites);
-  good = omega (arith, A .good, s .good);
-  counts = omega (arith, A .counts, s .counts);
-  table = omega (arith, A .table, s .table);
-  order = omega (arith, A .order, s .order);
+sized-lent : {K K' : Kept} {W W' : Buffers} {o o' : List ℕ} → K' .sheet ≡ K .sheet → Sized K K' W W' o o' → lengthsOf K' W' ≡ lengthsOf K W
+sized-lent e s = rw (e, s .ranks, s .cuts, s .cites, s .good, s .counts, s .table, s .order) refl
+
+-- ---- what was done so far, with the lines so far, and whether a block was accepted
+
+pub record SoFar (l₀ : Ledger) (K₀ : Kept) (W₀ : Buffers) (out₀ : List ℕ) (place₀ : ℕ) (l : Ledger) (K : Kept) (W : Buffers) (out : List ℕ) (place : ℕ) (text : List ℕ) (took : Bool) : Type 0 where
+  pub loading : l .loading ≡ l₀ .loading
+  pub sheet : K .sheet ≡ K₀ .sheet
+  pub beyond : Beyond (sizesOf l₀) W₀ W
+  pub quiet : took ≡ false → W ≡ W₀
+  pub wrote : Wrote out₀ place₀ text out place
+
+no-further : (l : Ledger) (W : Buffers) → Beyond (sizesOf l) W W
+no-further l W = record { counts = refl; table = refl; order = refl; counts-length = refl; table-length = refl; order-length = refl }
+
+neither : (s t : Bool) → pick s true t ≡ false → (s ≡ false) × (t ≡ false)
+unfolding pick
+neither true t e = absurd (let z : _≡_ {A = ℕ} 0 1 = cc in omega arith)
+neither false t e = (refl, e)
+
+module _ {l₀ : Ledger} {K₀ : Kept} {W₀ : Buffers} {out₀ : List ℕ} {place₀ : ℕ} {l : Ledger} {K : Kept} {W : Buffers} {out : List ℕ} {place : ℕ} {text : List ℕ} {took : Bool}
+    (s : SoFar l₀ K₀ W₀ out₀ place₀ l K W out place text took) (run : List ℕ) (at : ℕ) where
+  -- nothing more is offered
+  so-done : (b : Bool) → behind text took (stopped l K b) ≡ courseOf run at l₀ K₀ W₀ → PutsBlocks run at l₀ K₀ W₀ out₀ place₀ (record { ledger = l; place = place; ended = b }) K W out
+  so-done b e = record {
+    ledger = ap (λ (c : Course). c .ledger) e;
+    kept = ap (λ (c : Course). c .kept) e;
+    ended = ap (λ (c : Course). c .ended) e;
+    text = wrote-as (sym (append-nil text) ∙ ap (λ (c : Course). c .text) e) (s .wrote);
+    quiet = λ q. s .quiet (neither took false (ap (λ (c : Course). c .accepted) e ∙ q) .0);
+    beyond = s .beyond;
+  }
+
+-- ---- one offer more
+
+further : {z : Sizes} {W W' W'' : Buffers} → Beyond z W W' → Beyond z W' W'' → Beyond z W W''
+further a b = record {
+  counts = b .counts ∙ a .counts;
+  table = b .table ∙ a .table;
+  order = b .order ∙ a .order;
+  counts-length = b .counts-length ∙ a .counts-length;
+  table-length = b .table-length ∙ a .table-length;
+  order-length = b .order-length ∙ a .order-length;
 }
 
-pub record Turn (run : List ℕ) (at : ℕ) (l : Ledger) (K : Kept) (W : Buffers) (out : List ℕ) (place offset : ℕ) (l' : Ledger) (K' : Kept) (W' : Buffers) (out' : List ℕ) (place' : ℕ) : Type 0 where
-  pub whole : complete l' ≡ true
-  pub ample : Ample K' W'
-  pub sized : Sized K K' W W' out out'
-  pub going : Going run at l K out place offset l' K' out' place'
+abbrev ledger : Loading → List ℕ → Ledger
+ledger s heights = record { loading = s; heights = heights }
 
-pub turn-first : {run : List ℕ} {at : ℕ} {l : Ledger} {K : Kept} {W : Buffers} {out : List ℕ} {place : ℕ} → complete l ≡ true → Ample K W → Turn run at l K W out place at l K W out place
-turn-first {run} {at} {l} {K} {W} {out} {place} e A = record {
-  whole = e;
-  ample = A;
+abbrev course : Ledger → Kept → List ℕ → Bool → Bool → Course
+course l K text ended took = record { ledger = l; kept = K; text = text; ended = ended; accepted = took }
+
+or-or : (s t u : Bool) → pick s true (pick t true u) ≡ pick (pick s true t) true u
+unfolding pick
+or-or true t u = refl
+or-or false t u = refl
+
+behind-twice : (t t' : List ℕ) (b b' : Bool) (c : Course) → behind t b (behind t' b' c) ≡ behind (t ++ t') (pick b true b') c
+behind-twice t t' b b' c = ap₂ (λ (x : List ℕ) (y : Bool). course (c .ledger) (c .kept) x (c .ended) y) (sym (append-assoc t t' (c .text))) (or-or b b' (c .accepted))
+
+module _ {l : Ledger} {K : Kept} {W : Buffers} {lent run : List ℕ} {offset : ℕ} {r : Offered} {K' : Kept} {W' : Buffers} (p : Offers l K W (frame lent run offset) r K' W') where
+  line-is : lineAt run offset (r .ledger) (replyOf (r .answer)) ≡ lineAt run offset l (answerFrom l K (frame lent run offset))
+  line-is = ap₂ (λ (s : Loading) (a : Answer). answerLine (valuesIn (bodyAt run offset) (s .m)) a) (p .loading) (p .answered)
+
+  so-more : {l₀ : Ledger} {K₀ : Kept} {W₀ : Buffers} {out₀ : List ℕ} {place₀ : ℕ} {out : List ℕ} {place : ℕ} {text : List ℕ} {took : Bool} {out' : List ℕ} {place' : ℕ}
+      → SoFar l₀ K₀ W₀ out₀ place₀ l K W out place text took → Wrote out place (lineAt run offset (r .ledger) (replyOf (r .answer))) out' place'
+      → SoFar l₀ K₀ W₀ out₀ place₀ (r .ledger) K' W' out' place' (text ++ lineAt run offset l (answerFrom l K (frame lent run offset)))
+      (pick took true (isAccepted (answerFrom l K (frame lent run offset))))
+  so-more {text = text} {took = took} s w = record {
+    loading = p .loading ∙ s .loading;
+    sheet = p .sheet ∙ s .sheet;
+    beyond = further (s .beyond) (rw (s .loading) at (p .beyond));
+    quiet = λ q. let (e, f) = neither took _ q in p .quiet f ∙ s .quiet e;
+    wrote = wrote-as (ap (λ (x : List ℕ). text ++ x) line-is) (wrote-then (s .wrote) w);
+  }
+
+  module _ (text : List ℕ) (took : Bool) (fuel : ℕ) (more : offset < length run) where
+    -- the rest of the course, whether it stops here or goes on
+    rest : Bool → Course
+    rest b = pick b (stopped (r .ledger) K' true) (courseFrom fuel lent run (endOf (frameAt run offset) offset) (r .ledger) K')
+
+    course-more : behind text took (courseFrom (suc fuel) lent run offset l K)
+        ≡ behind (text ++ lineAt run offset l (answerFrom l K (frame lent run offset))) (pick took true (isAccepted (answerFrom l K (frame lent run offset))))
+        (rest (stopsAt (replyOf (r .answer)) offset (endOf (frameAt run offset) offset)))
+    unfolding rest courseFrom cellsAfter
+    course-more =
+        let l' : r .ledger ≡ ledgerWith l (cellsAfter l K (frame lent run offset)) = ap₂ ledger (p .loading) (ap (λ (C : Cells). C .heights) (p .cells)) in
+        let K' : K' ≡ keptWith K (cellsAfter l K (frame lent run offset)) = ap₂ (λ (x : List ℕ) (C : Cells). kept x (C .ranks) (C .cuts) (C .cites) (C .good)) (p .sheet) (p .cells) in
+        rw (l', K', p .answered) (ap (behind text took) (pick-false (leb (length run) offset) _ _ (lt-leb (length run) offset more)) ∙ behind-twice text _ took _ _)
+
+-- ---- one turn of the loop
+
+pub record Turn (run : List ℕ) (at : ℕ) (l₀ : Ledger) (K₀ : Kept) (W₀ : Buffers) (out₀ : List ℕ) (place₀ offset : ℕ) (l : Ledger) (K : Kept) (W : Buffers) (out : List ℕ) (place : ℕ) : Type 0 where
+  pub sized : Sized K₀ K W₀ W out₀ out
+  pub text : List ℕ
+  pub took : Bool
+  pub so-far : SoFar l₀ K₀ W₀ out₀ place₀ l K W out place text took
+  pub fuel : ℕ
+  pub enough : length run ≤ offset + fuel
+  pub course : behind text took (courseFrom (suc fuel) (lengthsOf K₀ W₀) run offset l K) ≡ courseOf run at l₀ K₀ W₀
+
+pub turn-first : {run : List ℕ} {at : ℕ} {l : Ledger} {K : Kept} {W : Buffers} {out : List ℕ} {place : ℕ} → Turn run at l K W out place at l K W out place
+unfolding pick
+turn-first {run} {at} {l} {K} {W} {out} {place} = record {
   sized = record { ranks = refl; cuts = refl; cites = refl; good = refl; counts = refl; table = refl; order = refl; text = refl };
-  going = going-first run at l K out place;
+  text = [];
+  took = false;
+  so-far = record { loading = refl; sheet = refl; beyond = no-further l W; quiet = λ e. refl; wrote = wrote-none out place };
+  fuel = length run;
+  enough = omega arith;
+  course = refl;
 }
 
 module _ {run : List ℕ} {at : ℕ} {l₀ : Ledger} {K₀ : Kept} {W₀ : Buffers} {out₀ : List ℕ} {place₀ offset : ℕ} {l : Ledger} {K : Kept} {W : Buffers} {out : List ℕ} {place : ℕ}
     (T : Turn run at l₀ K₀ W₀ out₀ place₀ offset l K W out place) where
-  pub turn-end : length run ≤ offset → PutsBlocks run at l₀ K₀ out₀ place₀ (record { ledger = l; place = place; ended = false }) K out
-  turn-end h = going-end run at l₀ K₀ out₀ place₀ offset l K out place (T .going) (T .whole) h
+  -- no byte is left
+  pub turn-end : length run ≤ offset → PutsBlocks run at l₀ K₀ W₀ out₀ place₀ (record { ledger = l; place = place; ended = false }) K W out
+  unfolding courseFrom
+  turn-end h = so-done (T .so-far) run at false (ap (behind (T .text) (T .took)) (sym (pick-true (leb (length run) offset) _ _ (le-leb (length run) offset h))) ∙ T .course)
 
   module _ {W' : Buffers} {r : Offered} {K' : Kept} {out' : List ℕ} {place' : ℕ} (more : offset < length run) (p : Offers l K W (frame (lengthsOf K W) run offset) r K' W')
-      (w : Wrote out place (answerLine (valuesIn (bodyAt run offset) (r .ledger .loading .m)) (replyOf (r .answer))) out' place') where
-    pub turn-ends : endsOutput (replyOf (r .answer)) ≡ true → PutsBlocks run at l₀ K₀ out₀ place₀ (record { ledger = r .ledger; place = place'; ended = true }) K' out'
-    turn-ends t = going-ends run at l₀ K₀ out₀ place₀ offset l K out place (T .going) W W' r K' out' place' _ more (T .ample) p refl w (unfold complete in rw (p .loading) (T .whole)) t
+      (w : Wrote out place (lineAt run offset (r .ledger) (replyOf (r .answer))) out' place') {end : ℕ} (e : end ≡ endOf (frameAt run offset) offset) where
+    q : Offers l K W (frame (lengthsOf K₀ W₀) run offset) r K' W'
+    q = subst (λ (lent : List ℕ). Offers l K W (frame lent run offset) r K' W') (sized-lent (T .so-far .sheet) (T .sized)) p
 
-    module _ {offset' : ℕ} (o : offset' ≡ endOf (frameAt run offset) offset) (f : endsOutput (replyOf (r .answer)) ≡ false) where
-      further : offset < endOf (frameAt run offset) offset
-      further = comes-further l K W run offset (replyOf (r .answer)) (T .whole) (T .ample) more (p .answered) f
+    abbrev text' : List ℕ
+    text' = T .text ++ lineAt run offset l (answerFrom l K (frame (lengthsOf K₀ W₀) run offset))
 
-      pub turn-less : length run - offset' < length run - offset
-      turn-less = omega (arith, further)
+    abbrev took' : Bool
+    took' = pick (T .took) true (isAccepted (answerFrom l K (frame (lengthsOf K₀ W₀) run offset)))
 
-      pub turn-next : Sized K K' W W' out out' → Turn run at l₀ K₀ W₀ out₀ place₀ offset' (r .ledger) K' W' out' place'
-      turn-next s = rw o (record {
-        whole = unfold complete in rw (p .loading) (T .whole);
-        ample = ample-sized (T .ample) (p .sheet) s;
-        sized = sized-then (T .sized) s;
-        going = going-on run at l₀ K₀ out₀ place₀ offset l K out place (T .going) W W' r K' out' place' _ more (T .ample) p refl w further f;
-      })
+    pub turn-ends : stopsAt (replyOf (r .answer)) offset end ≡ true → PutsBlocks run at l₀ K₀ W₀ out₀ place₀ (record { ledger = r .ledger; place = place'; ended = true }) K' W' out'
+    unfolding rest
+    turn-ends t = so-done (so-more q (T .so-far) w) run at true (ap (behind text' took') (sym (pick-true _ _ _ (rw e at t))) ∙ sym (course-more q (T .text) (T .took) (T .fuel) more) ∙ T .course)
+
+    module _ (f : stopsAt (replyOf (r .answer)) offset end ≡ false) where
+      forward : offset < end
+      unfolding stopsAt
+      forward = leb-false end offset (neither _ _ f .1)
+
+      pub turn-less : length run - end < length run - offset
+      turn-less = omega (arith, forward)
+
+      pub turn-next : Sized K K' W W' out out' → Turn run at l₀ K₀ W₀ out₀ place₀ end (r .ledger) K' W' out' place'
+      unfolding rest
+      turn-next s =
+          let n : T .fuel ≡ suc (T .fuel - 1) = omega (arith, T .enough) in
+          record {
+            sized = sized-then (T .sized) s;
+            text = text';
+            took = took';
+            so-far = so-more q (T .so-far) w;
+            fuel = T .fuel - 1;
+            enough = omega (arith, T .enough, forward);
+            course = rw (sym n, e) (ap (behind text' took') (sym (pick-false _ _ _ (rw e at f))) ∙ sym (course-more q (T .text) (T .took) (T .fuel) more) ∙ T .course);
+          }

@@ -3,3 +3,4 @@ pub mod Opening
 pub mod Reading
 pub mod Inner
 pub mod Worked
+pub mod Exists

@@ -11,6 +11,7 @@ ghost use mathlib.Core.Path.{_≡_};
 ghost use Rattle.frames.specs.Frame.{bodyAt, frameAt};
 ghost use Rattle.offers.specs.Offering.{replyOf};
 ghost use Rattle.plain.specs.Offers.{valuesIn};
+ghost use Rattle.replay.specs.Inner.{stopsAt};
 ghost use Rattle.replay.specs.Reading.{answerLine, endOf, endsOutput};
 ghost use Rattle.text.specs.Wrote.{Wrote};
 
@@ -59,4 +60,14 @@ pub fn next_frame(run: &[u8], at: usize) -> usize
         Framed::Refused(_) => at,
         Framed::End => at,
     }
+}
+
+// The output ends with this answer, or no whole frame stands here behind which it could go on.
+pub fn stops(answer: Answer, at: usize, end: usize) -> bool
+    ensures { λ r. ⌜ r ≡ stopsAt (replyOf answer) at end ⌝ }
+{
+    if ends_output(answer) {
+        return true;
+    }
+    end <= at
 }

@@ -1,14 +1,12 @@
 // The blocks of a run, offered one after the other, each with its line.
-use crate::answers::ends_output;
 use crate::answers::next_frame;
 use crate::answers::put_answer;
+use crate::answers::stops;
 use offers::offer::offer_frame;
 use state::ledger::Ledger;
-ghost use Rattle.replay.specs.Inner.{Ample, PutsBlocks};
+ghost use Rattle.replay.specs.Inner.{PutsBlocks};
 ghost use Rattle.settlement.specs.Tables.{buffers};
-ghost use Rattle.state.specs.State.{complete, kept};
-ghost use mathlib.Core.Bool.{true};
-ghost use mathlib.Core.Path.{_≡_};
+ghost use Rattle.state.specs.State.{kept};
 
 // The ledger afterwards, the place after the last line, and whether the output ends there.
 pub struct Blocks {
@@ -17,7 +15,7 @@ pub struct Blocks {
     pub ended: bool,
 }
 
-// `requires`: the ledger's sheet is complete and its buffers suffice for every sheet; `report_run` sees to both.
+// With any ledger, and buffers of any length: what is too early or too short is refused, as `offer_frame` says.
 pub fn put_blocks(
     ledger: Ledger,
     sheet: &[u8],
@@ -33,15 +31,15 @@ pub fn put_blocks(
     out: &mut [u8],
     place: usize,
 ) -> Blocks
-    requires { ⌜ (complete ledger ≡ true)
-        × Ample (kept (now sheet) (now ranks) (now cuts) (now cites) (now good)) (buffers (now counts) (now table) (now order)) ⌝ }
     ensures { λ r. ⌜ PutsBlocks
         (now (run .entry))
         at ledger
         (kept (now (sheet .entry)) (now (ranks .entry)) (now (cuts .entry)) (now (cites .entry)) (now (good .entry)))
+        (buffers (now (counts .entry)) (now (table .entry)) (now (order .entry)))
         (now (out .entry))
         place r
         (kept (now (sheet .entry)) (now (ranks .exit)) (now (cuts .exit)) (now (cites .exit)) (now (good .exit)))
+        (buffers (now (counts .exit)) (now (table .exit)) (now (order .exit)))
         (now (out .exit)) ⌝ }
 {
     let mut state = ledger;
@@ -65,14 +63,15 @@ pub fn put_blocks(
         state = done.ledger;
         let loading = state.loading;
         next = put_answer(answer, run, offset, loading.m, out, next);
-        if ends_output(answer) {
+        let end = next_frame(run, offset);
+        if stops(answer, offset, end) {
             return Blocks {
                 ledger: state,
                 place: next,
                 ended: true,
             };
         }
-        offset = next_frame(run, offset);
+        offset = end;
     }
     Blocks {
         ledger: state,

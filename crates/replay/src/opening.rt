@@ -6,8 +6,6 @@ use state::ledger::fresh;
 use state::ledger::is_complete;
 use state::load::Taken;
 use state::load::load_sheet;
-ghost use Prim.Native.Nat.{_≤_};
-ghost use lib.ListN.{length};
 ghost use Rattle.replay.specs.Inner.{Opens};
 
 // The ledger with its sheet and where the blocks begin; or the refusal that ends the reading.
@@ -17,10 +15,9 @@ pub struct Opened {
     pub at: usize,
 }
 
-// `requires`: the sheet's buffer suffices for every sheet; `report_run` checks it.
+// Where the sheet's buffer is too short, that is refusal 16, as `load_sheet` says.
 pub fn open_run(run: &[u8], sheet: &mut [u8]) -> Opened
-    requires { ⌜ 110592 ≤ length (now sheet) ⌝ }
-    ensures { λ r. ⌜ Opens (now (run .entry)) (now (sheet .exit)) r ⌝ }
+    ensures { λ r. ⌜ Opens (now (run .entry)) (now (sheet .entry)) r (now (sheet .exit)) ⌝ }
 {
     let mut ledger = fresh();
     let mut at: usize = 0;

@@ -3,15 +3,16 @@
 use Prim.Native.Nat.{_<_, _≤_, suc, ℕ}
 use borrow.Author.Tests.{le-ltb, lt-ltb}
 use lib.ListN.{length}
-use mathlib.Core.Bool.{Bool, false, true}
+use mathlib.Core.Bool.{false, true}
 use mathlib.Core.List.{List, [], _++_, append-nil}
 use mathlib.Core.Path.{_∙_, _≡_, ap, ap₂, refl, subst, sym}
 use native.Mathlib.Omega.{arith}
 use Rattle.closing.specs.Closing as closing
 use Rattle.closing.specs.Closing.{Closes}
-use Rattle.demand.proofs.Demand3.{comes, read-right}
+use Rattle.demand.proofs.Demand3.{Q, comes}
 use Rattle.demand.proofs.Opened.{sheet-said}
-use Rattle.demand.specs.Chain.{Event, InUse, Opening, noSheet, stop}
+use Rattle.demand.proofs.Steps.{report-right}
+use Rattle.demand.specs.Chain.{InUse, Opening, noSheet, stop}
 use Rattle.demand.specs.Claim.{logsOf, offersIn}
 use Rattle.plain.specs.Logs.{emptyLogs}
 use Rattle.plain.specs.Plain.{ledger}
@@ -20,20 +21,20 @@ use Rattle.readings.specs.Reading.{reportIn}
 use Rattle.refusals.specs.Refusals.{refusalNumber, refusalPlace}
 use Rattle.refusals.specs.declared.Checked.{Checked}
 use Rattle.refusals.specs.declared.Refusal.{Refusal}
-use Rattle.replay.specs.Inner.{Ample, Opens, PutsBlocks}
+use Rattle.replay.proofs.CourseLaws.{puts-text}
+use Rattle.replay.proofs.OpenLaws.{Said}
+use Rattle.replay.specs.Inner.{Ample, PutsBlocks, Stand}
 use Rattle.report.specs.Inner.{PutsOpened}
 use Rattle.replay.specs.Opening.{Opened, ended, noLoading, openFrom, sheet}
 use Rattle.replay.specs.Reading.{blocksText, openedText, readingText}
 use Rattle.replay.specs.declared.blocks.Blocks.{Blocks}
-use Rattle.replay.specs.declared.opening.Opened as opening
 use Rattle.settlement.specs.Tables.{Buffers}
 use Rattle.sheets.proofs.SheetCells.{sheet-a, sheet-count, sheet-g, sheet-m}
 use Rattle.sheets.specs.Sheet.{Sheet, txCount}
 use Rattle.sheets.specs.declared.sheet.Sizes.{Sizes}
-use Rattle.state.specs.State.{Kept, complete, kept, sheetOf, sizesOf}
+use Rattle.state.specs.State.{Kept, kept, sheetOf, sizesOf}
 use Rattle.state.specs.declared.ledger.Ledger.{Ledger}
 use Rattle.sums.proofs.TestLaws.{pick-false, pick-true}
-use Rattle.sums.specs.Test.{pick}
 use Rattle.text.proofs.WroteLaws.{wrote-as, wrote-then}
 use Rattle.text.specs.Lines.{longLine, refusedLine, runLine}
 use Rattle.text.specs.Tail.{tailText}
@@ -70,7 +71,7 @@ ample-sheet b e A = record {
 
 module _ {run : List ℕ} {at : ℕ} {l : Ledger} {K : Kept} {out out1 : List ℕ} {start : ℕ} (z : Sizes) (sized : z ≡ sizesOf l)
     (w : Wrote out 0 (runLine (z .m) (z .a) (z .g) (z .t)) out1 start)
-    {r : Blocks} {K' : Kept} {out2 : List ℕ} (p : PutsBlocks run at l K out1 start r K' out2) where
+    {W : Buffers} {r : Blocks} {K' : Kept} {W' : Buffers} {out2 : List ℕ} (p : PutsBlocks run at l K W out1 start r K' W' out2) (A : Ample K W) where
   module _ (S : Sheet) (U : InUse S [] l K) where
     head : runLine (z .m) (z .a) (z .g) (z .t) ≡ runLine (S .m) (S .a) (S .g) (txCount S)
     head =
@@ -88,17 +89,17 @@ module _ {run : List ℕ} {at : ℕ} {l : Ledger} {K : Kept} {out out1 : List �
   pub opened-ends : r .ended ≡ true → PutsOpened run at l K out out2 (r .place)
   opened-ends t = record {
     text = λ S U.
-        let (es', U', text, v, e) = p .puts S [] U in
+        let (L, B, text, v, e) = puts-text p A S [] U in
         wrote-as (whole-text S U text (sym (append-nil text) ∙ ap (λ (x : List ℕ). text ++ x) (sym (pick-true (r .ended) [] _ t)) ∙ e)) (wrote-then w v);
   }
 
-  pub opened-closes : {W W' : Buffers} {out3 : List ℕ} {n : ℕ} → r .ended ≡ false → Closes (r .ledger) (kept (K' .sheet) (K' .ranks) [] (K' .cites) (K' .good)) W out2 (r .place) W' out3 n
+  pub opened-closes : {W₁ W₂ : Buffers} {out3 : List ℕ} {n : ℕ} → r .ended ≡ false → Closes (r .ledger) (kept (K' .sheet) (K' .ranks) [] (K' .cites) (K' .good)) W₁ out2 (r .place) W₂ out3 n
       → PutsOpened run at l K out out3 n
   unfolding reportIn
   opened-closes f c = record {
     text = λ S U.
-        let (es', U', text, v, e) = p .puts S [] U in
-        let q : reportIn (r .ledger) K' ≡ reportOf S (logsOf S es') = read-right S es' (r .ledger) K' U' .report in
+        let (L, B, text, v, e) = puts-text p A S [] U in
+        let q : reportIn (r .ledger) K' ≡ reportOf S L = report-right S (Q S [] l K U) (r .ledger) K' L B in
         wrote-as (whole-text S U (text ++ tailText (reportIn (r .ledger) K')) (ap (λ (x : Report). text ++ tailText x) q ∙ ap (λ (x : List ℕ). text ++ x) (sym (pick-false (r .ended) [] _ f)) ∙ e))
         (wrote-then w (wrote-then v (c .text)));
   }
@@ -114,24 +115,22 @@ module _ (run : List ℕ) {out out' : List ℕ} {r : ℕ} where
   unfolding readingText
   reads-opened o h e w = wrote-as (ap (openedText run) e ∙ sym (pick-false _ _ _ (le-ltb 65536 (length run) h))) w
 
-  pub reads-refused : {cells : List ℕ} {o : opening.Opened} {x : Refusal} {n k : ℕ} → length run ≤ 65536 → Opens run cells o → o .answer ≡ Checked.Refused x → n ≡ refusalNumber x → k ≡ refusalPlace x
-      → Wrote out 0 (refusedLine n k) out' r → Wrote out 0 (readingText run) out' r
+  pub reads-refused : {s : Stand} {x : Refusal} {n k : ℕ} → length run ≤ 65536 → Said (openFrom (suc (length run)) run 0 noLoading noSheet) s → s .result .answer ≡ Checked.Refused x
+      → n ≡ refusalNumber x → k ≡ refusalPlace x → Wrote out 0 (refusedLine n k) out' r → Wrote out 0 (readingText run) out' r
   unfolding openedText
-  reads-refused {x = x} h O e en ek w = reads-opened (ended x) h (came O e) (wrote-as (rw (en, ek) refl) w)
-    where
-      came : {cells : List ℕ} {o : opening.Opened} {x : Refusal} → Opens run cells o → o .answer ≡ Checked.Refused x → ended x ≡ openFrom (suc (length run)) run 0 noLoading noSheet
-      came O e = rw e at (O .came)
+  reads-refused {x = x} h O e en ek w = reads-opened (ended x) h (rw e at (O .came)) (wrote-as (rw (en, ek) refl) w)
 
-  pub reads-whole : {cells : List ℕ} {o : opening.Opened} (ranks cuts cites good : List ℕ) → length run ≤ 65536 → Opens run cells o → o .answer ≡ Checked.Fine
-      → PutsOpened run (o .at) (o .ledger) (kept cells ranks cuts cites good) out out' r → Wrote out 0 (readingText run) out' r
-  reads-whole {cells} {o} ranks cuts cites good h O e p =
-      let K : Kept = kept cells ranks cuts cites good in
+  pub reads-whole : {s : Stand} (ranks cuts cites good : List ℕ) → length run ≤ 65536 → Said (openFrom (suc (length run)) run 0 noLoading noSheet) s → s .result .answer ≡ Checked.Fine
+      → PutsOpened run (s .result .at) (s .result .ledger) (kept (s .cells) ranks cuts cites good) out out' r → Wrote out 0 (readingText run) out' r
+  reads-whole {s} ranks cuts cites good h O e p =
+      let l : Ledger = s .result .ledger in
+      let K : Kept = kept (s .cells) ranks cuts cites good in
       let (S, chain) = O .opened in
-      let U : InUse (sheetOf (o .ledger) K) [] (o .ledger) K = record {
-        first = o .ledger;
+      let U : InUse (sheetOf l K) [] l K = record {
+        first = l;
         lent = K;
-        opened = subst (λ (T : Sheet). Opening (o .ledger) cells T) (sheet-said S (o .ledger) K chain (O .whole e)) chain;
+        opened = subst (λ (T : Sheet). Opening l (s .cells) T) (sheet-said S l K chain (O .whole e)) chain;
         whole = O .whole e;
         calls = stop;
       } in
-      reads-opened (sheet (sheetOf (o .ledger) K) (o .at)) h (rw e at (O .came)) (p .text _ U)
+      reads-opened (sheet (sheetOf l K) (s .result .at)) h (rw e at (O .came)) (p .text _ U)

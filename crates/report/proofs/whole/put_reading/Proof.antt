@@ -1,4 +1,5 @@
 use borrow.Author.Needs.{needs}
+use Rattle.replay.proofs.OpenLaws.{opens-said}
 use Rattle.report.proofs.TextLaws.{ample-sheet, reads-long, reads-refused, reads-whole}
 use Rattle.report.proofs.whole.put_reading.Statement.{statement}
 use Rattle.report.proofs.whole.put_reading.Tie as tie
@@ -10,7 +11,7 @@ returns : tie.Need-returns
 returns c = reads-long _ (c .before .before .before .before .if1 .taken) (c .before .before .put-long .ensures)
 
 put-opened-requires : tie.Need-put-opened-requires
-put-opened-requires c κs = (c .before .before .before .before .before .before .before .before .before .before .before .before .before .open-run .ensures .whole (c .before .before .before .before .before .before .before .before .before .enum-told .given .1), ample-sheet _ (c .before .before .before .before .before .before .before .before .before .before .before .before .sheet .given) (c .before .before .before .before .before .before .before .before .before .before .before .before .before .before .before .before .before .before .before .before .before .before .before .before .before .before .pre))
+put-opened-requires c κs = ((opens-said (c .before .before .before .before .before .before .before .before .before .before .before .before .before .before .before .before .before .before .before .before .before .before .before .before .before .before .pre .sheet) (c .before .before .before .before .before .before .before .before .before .before .before .before .before .open-run .ensures)) .whole (c .before .before .before .before .before .before .before .before .before .enum-told .given .1), ample-sheet _ (c .before .before .before .before .before .before .before .before .before .before .before .before .sheet .given) (c .before .before .before .before .before .before .before .before .before .before .before .before .before .before .before .before .before .before .before .before .before .before .before .before .before .before .pre))
 
 same-length-2 : tie.Need-same-length-2
 same-length-2 c = c .before .before .before .before .before .before .before .before .before .before .sheet .given
@@ -19,7 +20,7 @@ same-length-3 : tie.Need-same-length-3
 same-length-3 c = c .before .out2 .given
 
 returns-2 : tie.Need-returns-2
-returns-2 c = reads-refused _ (c .before .before .before .before .before .before .before .before .before .before .before .before .before .if1 .left) (c .before .before .before .before .before .before .before .before .before .before .before .open-run .ensures) (c .before .before .before .before .before .before .before .answer .given .1) (c .before .before .before .before .number .ensures) (c .before .before .before .place .ensures) (c .before .before .put-refused .ensures)
+returns-2 c = reads-refused _ (c .before .before .before .before .before .before .before .before .before .before .before .before .before .if1 .left) (opens-said (c .before .before .before .before .before .before .before .before .before .before .before .before .before .before .before .before .before .before .before .before .before .before .before .before .pre .sheet) (c .before .before .before .before .before .before .before .before .before .before .before .open-run .ensures)) (c .before .before .before .before .before .before .before .answer .given .1) (c .before .before .before .before .number .ensures) (c .before .before .before .place .ensures) (c .before .before .put-refused .ensures)
 
 same-length-4 : tie.Need-same-length-4
 same-length-4 c = c .before .before .before .before .before .before .before .before .before .before .before .before .before .before .before .before .before .before .before .before .before .before .before .before .before .before .before .before .before .sheet .given
@@ -49,7 +50,7 @@ same-length-12 : tie.Need-same-length-12
 same-length-12 c = c .before .out3 .given
 
 returns-3 : tie.Need-returns-3
-returns-3 c = reads-whole _ _ _ _ _ (c .before .before .before .before .before .before .before .before .before .before .before .before .before .before .before .before .before .before .before .before .before .before .before .before .before .before .before .before .before .before .before .before .if1 .left) (c .before .before .before .before .before .before .before .before .before .before .before .before .before .before .before .before .before .before .before .before .before .before .before .before .before .before .before .before .before .before .open-run .ensures) (c .before .before .before .before .before .before .before .before .before .before .before .before .before .before .before .before .before .before .before .before .before .before .before .before .before .before .enum-told .given .1) (c .before .before .before .before .before .before .before .before .before .before .before .before .before .before .before .before .put-opened .ensures)
+returns-3 c = reads-whole _ _ _ _ _ (c .before .before .before .before .before .before .before .before .before .before .before .before .before .before .before .before .before .before .before .before .before .before .before .before .before .before .before .before .before .before .before .before .if1 .left) (opens-said (c .before .before .before .before .before .before .before .before .before .before .before .before .before .before .before .before .before .before .before .before .before .before .before .before .before .before .before .before .before .before .before .before .before .before .before .before .before .before .before .before .before .before .before .pre .sheet) (c .before .before .before .before .before .before .before .before .before .before .before .before .before .before .before .before .before .before .before .before .before .before .before .before .before .before .before .before .before .before .open-run .ensures)) (c .before .before .before .before .before .before .before .before .before .before .before .before .before .before .before .before .before .before .before .before .before .before .before .before .before .before .enum-told .given .1) (c .before .before .before .before .before .before .before .before .before .before .before .before .before .before .before .before .put-opened .ensures)
 
 pub put-reading-spec : {M : Type 1} → statement M
 put-reading-spec =
