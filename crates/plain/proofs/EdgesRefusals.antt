@@ -9,6 +9,7 @@ use Rattle.escrow.specs.Report.{rowsAll, shareOf}
 use Rattle.frames.specs.Frame.{frameAt}
 use Rattle.frames.specs.Header.{headerOk}
 use Rattle.frames.specs.Balances.{balancesOk}
+use Rattle.frames.specs.Step.{kindDue, stepAt}
 use Rattle.transactions.specs.Check.{entryOk, operationOk, countsOk, inRange, accountsOnce, balanced, judgeTransaction}
 use Rattle.sheets.specs.Proper.{isProper}
 use Rattle.ordering.specs.Order.{entryAt, globalLog, logTo, seek}
@@ -18,7 +19,7 @@ use Rattle.plain.specs.Early.{earlyAnswer, earlyFront}
 use Rattle.plain.specs.Edges.{blk, offersOf, wholeBlocks, wholeSheet}
 use Rattle.plain.specs.EdgesFull.{citing, lastLogs, lastReport, lastSheet, manyPay, tall}
 use Rattle.plain.specs.EdgesFurther.{wholeShort, wholeFrames}
-use Rattle.plain.specs.EdgesRefusals.{Gives, GivesCall, GivesEarly, calls, citations, earlyTurned, entries, fronts, lends, logsBefore, offersIn, framesNear, framesTurned, framesWide, takes, threePay, turned}
+use Rattle.plain.specs.EdgesRefusals.{Ends, Gives, GivesCall, GivesEarly, calls, citations, earlyTurned, endings, entries, fronts, lends, logsBefore, offersIn, framesNear, framesTurned, framesWide, takes, threePay, turned}
 use Rattle.plain.specs.Logs.{Values, appended, blockFrom, historyOf}
 use Rattle.plain.specs.Offers.{offerNeeds, parse, values}
 use Rattle.plain.specs.Plain.{valuesAnswer, answer, blockAnswer, citeAnswer, citedBefore, entryOff, frontAnswer, idleAnswer, lastEntry, lastRank, ledger, lentAnswer, next, unusedSet}
@@ -99,7 +100,11 @@ cuts-same = refl
 
 pub early-refused : All GivesEarly earlyTurned
 unfolding pick le frameAt _then_ refuse firstTo offerNeeds lentAnswer idleAnswer earlyFront earlyAnswer
-early-refused = refl & refl & refl & refl & refl & refl & refl & refl & refl & refl & tt
+early-refused = refl & refl & refl & refl & refl & refl & refl & refl & refl & refl & refl & refl & tt
+
+pub ended-early : All Ends endings
+unfolding pick headerOk frameAt kindDue stepAt
+ended-early = refl & refl & refl & refl & tt
 
 -- ---- calls for readings
 

@@ -6,6 +6,9 @@ use lib.ListN.{length, replicate, set}
 use mathlib.Core.Bool.{Bool, false, true}
 use mathlib.Core.List.{List, [], _++_, _∷_, map}
 use mathlib.Core.Path.{_≡_}
+use Rattle.frames.specs.Step.{stepAt}
+use Rattle.frames.specs.declared.step.Loading.{Loading}
+use Rattle.frames.specs.declared.step.Step.{Step}
 use Rattle.plain.specs.Answer.{Answer, accepted, noOffer, refused}
 use Rattle.plain.specs.Early.{earlyAnswer}
 use Rattle.plain.specs.Edges.{ent, offersOf, pay, sheetOf, wholeReport, wholeSheet}
@@ -13,6 +16,7 @@ use Rattle.plain.specs.Logs.{Logs, Values, historyOf}
 use Rattle.plain.specs.Offers.{Offer, frame, offerNeeds, values}
 use Rattle.plain.specs.Plain.{answer, ledger}
 use Rattle.plain.specs.Report.{Query, accounts, log, readAnswer, registers, settlements, share}
+use Rattle.refusals.specs.declared.Refusal.the-variants.{Short}
 use Rattle.sheets.specs.Sheet.{Sheet}
 
 -- an offer, and its answer
@@ -213,19 +217,42 @@ framesWide =
     ∷ at5 (frameWith 4 (body 1 2 4 0 (258 ∷ 1 ∷ 0 ∷ []) [])) gives refused 12 0
     ∷ at5 (frameWith 4 (body 1 2 4 1 (2 ∷ 1 ∷ 0 ∷ []) (257 ∷ []))) gives refused 13 0 ∷ []
 
--- ---- before the sheet is complete: 16, then 3 with place 0 for values; for a slip 16, 1, 2, 1, then 3 at its offset, whatever its kind
+-- ---- before the sheet is complete: 16, then 3 with place 0 for values; for a slip 16, 1, 2, 1, then 3 at its offset, whatever its kind.
+-- A slip where no byte is left is no offer, here too
 abbrev pub earlyTurned : List Case
 earlyTurned =
     values [] (spoilt 3 (blk3 3 9 0 9 9 9 (replicate 33 7))) gives refused 16 324
     ∷ values room (spoilt 3 (blk3 3 9 0 9 9 9 (replicate 33 7))) gives refused 3 0
     ∷ off 1 2 4 2 1 0 (1 ∷ []) gives refused 3 0
+    ∷ frame [] (255 ∷ 255 ∷ 255 ∷ 255 ∷ 255 ∷ []) 5 gives noOffer
     ∷ frame [] (255 ∷ 255 ∷ 255 ∷ 255 ∷ 255 ∷ 1 ∷ []) 5 gives refused 16 324
+    ∷ at5 [] gives noOffer
     ∷ at5 (1 ∷ 0 ∷ 0 ∷ []) gives refused 1 5
     ∷ at5 (1 ∷ 0 ∷ 0 ∷ 0 ∷ []) gives refused 2 5
     ∷ at5 (four 8195) gives refused 2 5
     ∷ at5 (four 3 ++ two 9) gives refused 1 5
     ∷ at5 (frameWith 4 (body 3 9 0 33 (9 ∷ []) [])) gives refused 3 5
     ∷ at5 (frameWith 1 (twos (3 ∷ 3 ∷ 0 ∷ 3 ∷ []))) gives refused 3 5 ∷ []
+
+-- "also no byte left before the sheet is complete": this refusal 1 is the answer of the call that loads the sheet, while a header,
+-- balances or a transaction is due; once the sheet is complete the run ends there
+pub record Ending : Type 0 where
+  pub loading : Loading
+  pub step : Step
+
+abbrev pub Ends : Ending → Type 0
+Ends e = stepAt (255 ∷ 255 ∷ 255 ∷ 255 ∷ 255 ∷ []) 5 (e .loading) ≡ e .step
+
+-- stage, and how many of the three transactions are loaded
+abbrev pub soFar : ℕ → ℕ → Loading
+soFar stage n = record { m = 3; a = 3; g = 0; t = 3; stage = stage; loaded = n }
+
+abbrev pub endings : List Ending
+endings =
+    record { loading = soFar 0 0; step = Step.Refused (Short 5) }
+    ∷ record { loading = soFar 1 0; step = Step.Refused (Short 5) }
+    ∷ record { loading = soFar 2 2; step = Step.Refused (Short 5) }
+    ∷ record { loading = soFar 2 3; step = Step.End } ∷ []
 
 -- ---- calls for readings, of the run "One reading, whole": 3 with place 0 ahead of 16 before the sheet is complete; then 16, the working buffers before those that are filled
 
