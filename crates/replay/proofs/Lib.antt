@@ -6,3 +6,4 @@ pub mod PutLaws
 pub mod CourseLaws
 pub mod WorkedRun
 pub mod Exists
+pub mod Clauses
