@@ -10,14 +10,21 @@ ghost use Rattle.records_run.specs.Blank.{blanks};
 ghost use Rattle.settlement.specs.Tables.{buffers};
 ghost use Rattle.state.specs.State.{kept};
 
-// Four records that no account has.
-fn blank() -> [Account; 4]
+// As many records as a sheet may have accounts, each as no account has it.
+fn blank() -> [Account; 1024]
     ensures { λ r. ⌜ r ≡ blanks ⌝ }
 {
-    [Account { free: 7, held: 7 }; 4]
+    [Account {
+        free: 18446744073709551615,
+        held: 18446744073709551615,
+    }; 1024]
 }
 
-// The records of at most four accounts; the places after them are as `blank` has them.
+pub fn is_blank(r: Account) -> bool {
+    r.free == 18446744073709551615 && r.held == 18446744073709551615
+}
+
+// The records of the accounts; the places after them are as `blank` has them.
 pub fn records_of(
     ledger: Ledger,
     sheet: &[u8],
@@ -29,7 +36,7 @@ pub fn records_of(
     order: &mut [u16],
     free: &mut [u64],
     held: &mut [u64],
-) -> [Account; 4]
+) -> [Account; 1024]
     ensures { λ r. ⌜ ((a : Answer)
         × ReadsRecords ledger
         (kept (now (sheet .entry)) (now (ranks .entry)) [] (now (cites .entry)) (now (good .entry)))

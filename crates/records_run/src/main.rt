@@ -1,83 +1,109 @@
-// Prints the accounts of document 01's run from a lent list of records. The run stands on standard input.
+// Prints the account lines of a run's reading from a lent list of records, then how many of the places after them kept what they had.
+// The run stands on standard input. A reading that a refusal ends is that refusal's line, and a long run is the line `long`.
+use crate::lent::is_blank;
 use crate::lent::records_of;
+use crate::reading::is_fine;
+use crate::reading::offer_blocks;
+use crate::reading::open_sheet;
 use account_records::Account;
-use state::ledger::Ledger;
-use state::ledger::fresh;
-use state::load::load_sheet;
+use fields::front;
+use refusals::Checked;
+use refusals::number;
+use refusals::place;
+use state::ledger::sizes;
+ghost use Prim.Native.Nat.{_≤_};
 
 mod lent;
+mod reading;
 
-// The sheet: its four frames begin at these offsets of the run.
-fn loaded(run: &[u8], sheet: &mut [u8]) -> Ledger {
-    let header = load_sheet(fresh(), run, 0, sheet);
-    let first = header.ledger;
-    let balances = load_sheet(first, run, 14, sheet);
-    let second = balances.ledger;
-    let payment = load_sheet(second, run, 44, sheet);
-    let third = payment.ledger;
-    let contract = load_sheet(third, run, 72, sheet);
-    let all = contract.ledger;
-    all
+fn print_field(n: u64) {
+    io::write_all(1, b" ");
+    io::print_decimal(1, n);
 }
 
-// Two blocks are accepted, one of each of the first two instances.
-fn with_blocks(ledger: Ledger) -> Ledger {
-    let loading = ledger.loading;
-    let mut heights = [0u16; 16];
-    heights[0] = 1;
-    heights[1] = 1;
-    Ledger { loading, heights }
-}
-
-// A number below 10 in decimal.
-fn digit(n: u64) -> u8 {
-    if n < 10 {
-        return b'0' + n as u8;
+// As document 01 prints it.
+fn print_refusal(answer: Checked) {
+    match answer {
+        Checked::Refused(r) => {
+            io::write_all(1, b"refused");
+            print_field(number(r) as u64);
+            print_field(place(r) as u64);
+            io::write_all(1, b"\n");
+        }
+        Checked::Fine => {}
     }
-    b'?'
 }
 
-// An account's line, as document 01 prints it.
-fn show(k: u64, r: Account) {
-    let line = [
-        b'a',
-        b'c',
-        b'c',
-        b'o',
-        b'u',
-        b'n',
-        b't',
-        b' ',
-        digit(k),
-        b' ',
-        digit(r.free),
-        b' ',
-        digit(r.held),
-        b'\n',
-    ];
-    io::write_all(1, &line);
+fn print_account(k: u64, r: Account) {
+    io::write_all(1, b"account");
+    print_field(k);
+    print_field(r.free);
+    print_field(r.held);
+    io::write_all(1, b"\n");
 }
 
-// The sheet is loaded from the run. The blocks are put into their cells as their acceptance leaves them: docs/BUFFERS.md says where.
-// The run has three accounts, so the fourth record shows what its place had.
-fn main() {
-    let mut run = [0u8; 146];
-    let _n = io::read_full(0, &mut run);
-    let mut sheet = [0u8; 224];
-    let ledger = with_blocks(loaded(&run, &mut sheet));
-    let mut ranks = [0u32; 256];
-    ranks[0] = 2;
-    ranks[128] = 1;
-    let mut cites = [65535u16; 8192];
-    cites[0] = 0;
-    cites[1] = 1;
-    cites[4096] = 0;
-    let good = [1u8; 8192];
-    let mut counts = [0u32; 4];
-    let mut table = [0u8; 2];
-    let mut order = [0u16; 256];
-    let mut free = [0u64; 3];
-    let mut held = [0u64; 3];
+fn print_accounts(records: [Account; 1024], a: u16) {
+    let mut k = 0u16;
+    while k < 1024 && k < a {
+        print_account(k as u64, records[k as usize]);
+        k += 1;
+    }
+}
+
+fn one_if(b: bool) -> u64
+    ensures { λ r. ⌜ r ≤ 1 ⌝ }
+{
+    if b { 1 } else { 0 }
+}
+
+// How many of the places from a on are as they were.
+fn kept(records: [Account; 1024], a: u16) -> u64 {
+    let mut n = 0u64;
+    let mut k = a;
+    while k < 1024 {
+        n += one_if(is_blank(records[k as usize]));
+        k += 1;
+    }
+    n
+}
+
+fn print_records(records: [Account; 1024], a: u16) {
+    print_accounts(records, a);
+    io::write_all(1, b"kept");
+    print_field(kept(records, a));
+    io::write_all(1, b"\n");
+}
+
+fn print_run(run: &[u8]) {
+    let mut sheet = [0u8; 110592];
+    let mut ranks = [0u32; 2048];
+    let mut cuts = [0u16; 32768];
+    let mut cites = [0u16; 65536];
+    let mut good = [0u8; 65536];
+    let mut counts = [0u32; 2048];
+    let mut table = [0u8; 1024];
+    let mut order = [0u16; 2048];
+    let mut free = [0u64; 1024];
+    let mut held = [0u64; 1024];
+    let opened = open_sheet(run, &mut sheet);
+    let reached = offer_blocks(
+        opened,
+        &sheet,
+        &mut ranks,
+        &mut cuts,
+        &mut cites,
+        &mut good,
+        &mut counts,
+        &mut table,
+        &mut order,
+        run,
+    );
+    let answer = reached.answer;
+    let ledger = reached.ledger;
+    if !is_fine(answer) {
+        print_refusal(answer);
+        return;
+    }
     let records = records_of(
         ledger,
         &sheet,
@@ -90,8 +116,16 @@ fn main() {
         &mut free,
         &mut held,
     );
-    show(0, records[0]);
-    show(1, records[1]);
-    show(2, records[2]);
-    show(3, records[3]);
+    let z = sizes(ledger);
+    print_records(records, z.a);
+}
+
+fn main() {
+    let mut space = [0u8; 65537];
+    let n = io::read_full(0, &mut space);
+    if n > 65536 {
+        io::write_all(1, b"long\n");
+        return;
+    }
+    print_run(front(&space, n));
 }

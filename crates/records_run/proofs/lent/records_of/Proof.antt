@@ -19,7 +19,7 @@ use contract.Monad.{Fun, fact}
 use contract.Running.{givenOf, tables, tablesOf}
 use types.Kit.{Given, ‵, raw, _⊛_, some, later, _$_, _∵_, !, qed, by, move, keep, drop, use0, use1, use2, use3, split, join, pick, rewrite, fsplit, fjoin, feqL, await}
 use types.Part.{agg, whole, sub, look-in}
-use types.Run.{look, init, forget, stop, hop, fld, from, load, lit, addr, of-opd, no-more, and-then, assigns, land, returns, enter, alloc1, alloc0, params1, pass1, pass0, free1, free0}
+use types.Run.{look, init, forget, stop, hop, fld, from, load, addr, of-opd, no-more, and-then, assigns, land, returns, enter, alloc1, alloc0, params1, pass1, pass0, free1, free0}
 use types.SemTy.{Arr, cells}
 use types.Tokens.{lft-new, lft-end}
 use sound.WpLaws.{FmC, fmOf, WpFn-mono}
@@ -43,7 +43,7 @@ use denote.Triple.Walked.{AllGo, goes-none, goes-none-slice, goes-gave-slice, Wa
 use denote.Triple.Clauses.{ensured, lasts}
 use denote.Exit.{yes}
 use Rattle.account_records.specs.declared.Account.{Account}
-use Rattle.records_run.specs.Blank.{blanks}
+use Rattle.records_run.specs.Blank.{blanks, places}
 use Rattle.refusals.specs.declared.Checked.{Checked}
 use Rattle.refusals.proofs.Checked as C′
 use Rattle.refusals.proofs.Checked.Laws as CL
@@ -61,7 +61,7 @@ use Rattle.records_run.proofs.lent.records_of.Key.{name as #records-run
 use Rattle.records_run.proofs.lent.records_of as f
 use Rattle.records_run.proofs.lent.records_of.Statement as stated
 use Rattle.records_run.proofs.lent.records_of.Code as code
-use Rattle.records_run.proofs.lent.records_of.Proof.Parts.{R, Ar, tA, word-of, room4, stayed, Passed, κs, qs, args, vals, OwnSheet, OwnRanks, OwnCites, OwnGood, Lasts, Said, Blank, Call, array-typed, cells-of, array-of, ledger-makes, Post, to-blank, asked-blank, said-blank, call-κs, Toks, call-args, to-call, asked-call, exits}
+use Rattle.records_run.proofs.lent.records_of.Proof.Parts.{R, Ar, big-lit, tA, word-of, room, stayed, Passed, κs, qs, args, vals, OwnSheet, OwnRanks, OwnCites, OwnGood, Lasts, Said, Blank, Call, array-typed, cells-of, array-of, ledger-makes, Post, to-blank, asked-blank, said-blank, call-κs, Toks, call-args, to-call, asked-call, exits}
 
 module _ {Mo : Type 1} (𝓤 : URA Mo) (H : Heap 𝓤) (A : Atoms 𝓤) (W : Given 𝓤 H A) (mem″ : Memory → SProp 𝓤) (run : Routine → Fun 𝓤) (p : Passed) where
   open Passed p using (κ₀, κ₁, κ₂, κ₃, κ₄, κ₅, κ₆, κ₇, κ₈, q₀, q₁, q₂, q₃, q₄, q₅, q₆, q₇, q₈, l, lv, l-is, sr, rr, cr, gr, nr, tr, dr, fr, hr, room₀, room₁, room₂, room₃, room₄, room₅, room₆, room₇, room₈)
@@ -86,8 +86,8 @@ module _ {Mo : Type 1} (𝓤 : URA Mo) (H : Heap 𝓤) (A : Atoms 𝓤) (W : Giv
         assigns ! (addr ! (from ! (fld ! refl (hop ! (look-in ! 35 (sub ! 0 refl (whole !))) (stop !))))) (from ! (stop !)) (init ! 15 refl (tt, tt)) $ assigns ! (agg ! (and-then ! (load ! (from ! (stop !)) (look ! 15 refl)) (and-then ! (load ! (from ! (fld ! refl (stop !))) (look-in ! 35 (sub ! 1 refl (whole !)))) (no-more !)))) (from ! (stop !)) (init ! 13 refl (tt, (tt, (record { fits = room₆ .0 }, tt)))) $
         assigns ! (addr ! (from ! (fld ! refl (hop ! (look-in ! 33 (sub ! 0 refl (whole !))) (stop !))))) (from ! (stop !)) (init ! 11 refl (tt, tt)) $ assigns ! (agg ! (and-then ! (load ! (from ! (stop !)) (look ! 11 refl)) (and-then ! (load ! (from ! (fld ! refl (stop !))) (look-in ! 33 (sub ! 1 refl (whole !)))) (no-more !)))) (from ! (stop !)) (init ! 9 refl (tt, (tt, (record { fits = room₇ .0 }, tt)))) $
         assigns ! (addr ! (from ! (fld ! refl (hop ! (look-in ! 31 (sub ! 0 refl (whole !))) (stop !))))) (from ! (stop !)) (init ! 7 refl (tt, tt)) $ assigns ! (agg ! (and-then ! (load ! (from ! (stop !)) (look ! 7 refl)) (and-then ! (load ! (from ! (fld ! refl (stop !))) (look-in ! 31 (sub ! 1 refl (whole !)))) (no-more !)))) (from ! (stop !)) (init ! 5 refl (tt, (tt, (record { fits = room₈ .0 }, tt)))) $
-        assigns ! (addr ! (from ! (stop !))) (from ! (stop !)) (init ! 3 refl (tt, tt)) $ assigns ! (agg ! (and-then ! (load ! (from ! (stop !)) (look ! 3 refl)) (and-then ! (lit ! tt) (no-more !)))) (from ! (stop !)) (init ! 1 refl (tt, (tt, (record { fits = lit< tt }, tt)))) $
-        move ! (29 ∷ 0 ∷ []) $ use2 W (‵ (cells (mem R) blanks l₁₁ 0)) (cells-of 𝓤 H A W l₁₁ blanks u) $ lft-new ! tt (λ α. move ! (1 ∷ []) $ use1 W (later (some (λ (γ : GName). ‵ (MutSlice (named 9) (α ∷ []) R .own (record { ptr = (l₁₁, 0); name = γ; now = blanks }) (sliceVal (l₁₁, 0) 4 ∷ [])) ⊛ ‵ (flent (α ∷ []) (Held R 4 l₁₁ 0 γ))))) (lends-slice 𝓤 H A W R (named 9) (α ∷ []) blanks l₁₁ 0 room4) $ await ! tt $ pick ! (λ γ. split ! $
+        assigns ! (addr ! (from ! (stop !))) (from ! (stop !)) (init ! 3 refl (tt, tt)) $ assigns ! (agg ! (and-then ! (load ! (from ! (stop !)) (look ! 3 refl)) (and-then ! (big-lit ! (record { fits = lit< tt })) (no-more !)))) (from ! (stop !)) (init ! 1 refl (tt, (tt, (record { fits = lit< tt }, tt)))) $
+        move ! (29 ∷ 0 ∷ []) $ use2 W (‵ (cells (mem R) blanks l₁₁ 0)) (cells-of 𝓤 H A W l₁₁ blanks u) $ lft-new ! tt (λ α. move ! (1 ∷ []) $ use1 W (later (some (λ (γ : GName). ‵ (MutSlice (named 9) (α ∷ []) R .own (record { ptr = (l₁₁, 0); name = γ; now = blanks }) (sliceVal (l₁₁, 0) places ∷ [])) ⊛ ‵ (flent (α ∷ []) (Held R places l₁₁ 0 γ))))) (lends-slice 𝓤 H A W R (named 9) (α ∷ []) blanks l₁₁ 0 room) $ await ! tt $ pick ! (λ γ. split ! $
         -- what the parameters own is taken apart; what a `&` owns is had twice
         move ! (54 ∷ []) $ split ! $ move ! (1 ∷ []) $ split ! $ move ! (1 ∷ []) $ split ! $ move ! (1 ∷ []) $ split ! $ move ! (1 ∷ []) $ split ! $ move ! (1 ∷ []) $ split ! $ move ! (1 ∷ []) $ split ! $ move ! (1 ∷ []) $ split ! $ move ! (1 ∷ []) $ split ! $ move ! (1 ∷ []) $ drop ! $ move ! (63 ∷ []) $ fsplit ! $ move ! (1 ∷ []) $ fsplit ! $ move ! (1 ∷ []) $ fsplit ! $ move ! (1 ∷ []) $ fsplit ! $ move ! (1 ∷ []) $ fsplit ! $ move ! (1 ∷ []) $ fsplit ! $ move ! (1 ∷ []) $ fsplit ! $ move ! (1 ∷ []) $ fsplit ! $ move ! (1 ∷ []) $ fsplit ! $ move ! (1 ∷ []) $ fsplit ! $ move ! (1 ∷ []) $ drop ! $ move ! (9 ∷ []) $ drop ! $
         move ! (8 ∷ []) $ use1 W (‵ (OwnSheet p) ⊛ ‵ (OwnSheet p)) (shr-slice-copy 𝓤 H A W (named 0) κ₀ u8 .twice sr (slice-vals sr)) $ split ! $
@@ -104,7 +104,7 @@ module _ {Mo : Type 1} (𝓤 : URA Mo) (H : Heap 𝓤) (A : Atoms 𝓤) (W : Giv
         move ! (6 ∷ []) $ split ! $ move ! (1 ∷ []) $ facts ! C′.the-row (Is C′.the-row) (shows 𝓤 H A C′.the-row) r (v ∷ []) (λ r-is. land ! (from ! (stop !)) (init ! 36 refl (EL.lawful C′.the-type CL.the-laws 𝓤 H A W tt .typed r _ r-is .0)) $
         split ! $ move ! (1 ∷ []) $ split ! $ move ! (1 ∷ []) $ split ! $ move ! (1 ∷ []) $ split ! $ move ! (1 ∷ []) $ split ! $ move ! (1 ∷ []) $ split ! $ move ! (1 ∷ []) $ split ! $ move ! (1 ∷ []) $ split ! $ move ! (1 ∷ []) $ split ! $ move ! (1 ∷ []) $ split ! $ move ! (1 ∷ []) $ drop ! $
         -- the lifetime ends, and the array is back
-        lft-end ! tt $ move ! (0 ∷ 20 ∷ 10 ∷ []) $ use3 W (later (‵ (Arr (mem R) 4 .lies (zs .1 .1 .1 .1 .1 .1 .1 .1 .1 .1 .0) l₁₁ 0))) (slice-back 𝓤 H A W R (α ∷ []) γ (zs .1 .1 .1 .1 .1 .1 .1 .1 .1 .1 .0) 4 l₁₁ 0) $ await ! tt $ use1 W (‵ (fat fullShare tA l₁₁ 0 (word-of (zs .1 .1 .1 .1 .1 .1 .1 .1 .1 .1 .0))) ⊛ ‵ (Ar .own (zs .1 .1 .1 .1 .1 .1 .1 .1 .1 .1 .0) (word-of (zs .1 .1 .1 .1 .1 .1 .1 .1 .1 .1 .0) ∷ []))) (array-of 𝓤 H A W l₁₁ (zs .1 .1 .1 .1 .1 .1 .1 .1 .1 .1 .0)) $ split ! $
+        lft-end ! tt $ move ! (0 ∷ 20 ∷ 10 ∷ []) $ use3 W (later (‵ (Arr (mem R) places .lies (zs .1 .1 .1 .1 .1 .1 .1 .1 .1 .1 .0) l₁₁ 0))) (slice-back 𝓤 H A W R (α ∷ []) γ (zs .1 .1 .1 .1 .1 .1 .1 .1 .1 .1 .0) places l₁₁ 0) $ await ! tt $ use1 W (‵ (fat fullShare tA l₁₁ 0 (word-of (zs .1 .1 .1 .1 .1 .1 .1 .1 .1 .1 .0))) ⊛ ‵ (Ar .own (zs .1 .1 .1 .1 .1 .1 .1 .1 .1 .1 .0) (word-of (zs .1 .1 .1 .1 .1 .1 .1 .1 .1 .1 .0) ∷ []))) (array-of 𝓤 H A W l₁₁ (zs .1 .1 .1 .1 .1 .1 .1 .1 .1 .1 .0)) $ split ! $
         move ! (1 ∷ []) $ peeks ! Ar (Is Ar) (shows 𝓤 H A Ar) (zs .1 .1 .1 .1 .1 .1 .1 .1 .1 .1 .0) (word-of (zs .1 .1 .1 .1 .1 .1 .1 .1 .1 .1 .0) ∷ []) (λ back. assigns ! (of-opd ! (load ! (from ! (stop !)) (look ! 1 refl))) (from ! (stop !)) (init ! 69 refl (array-typed 𝓤 H A W .typed (zs .1 .1 .1 .1 .1 .1 .1 .1 .1 .1 .0) _ back .0)) $ returns ! (look ! 69 refl) $
         forget ! 20 refl $ forget ! 22 refl $ forget ! 24 refl $ forget ! 26 refl $ forget ! 28 refl $ forget ! 30 refl $ forget ! 32 refl $ forget ! 34 refl $ forget ! 36 refl $ forget ! 38 refl $ forget ! 40 refl $ forget ! 42 refl $ forget ! 44 refl $ forget ! 46 refl $ forget ! 1 refl $ forget ! 49 refl $ forget ! 51 refl $ forget ! 53 refl $ forget ! 55 refl $ forget ! 57 refl $ forget ! 59 refl $ forget ! 61 refl $ forget ! 63 refl $ forget ! 65 refl $ forget ! 67 refl $ forget ! 69 refl $
         move ! (69 ∷ 70 ∷ []) $ free1 ! $ move ! (67 ∷ 68 ∷ []) $ free1 ! $ move ! (65 ∷ 66 ∷ []) $ free1 ! $ move ! (63 ∷ 64 ∷ []) $ free1 ! $ move ! (61 ∷ 62 ∷ []) $ free1 ! $ move ! (59 ∷ 60 ∷ []) $ free1 ! $ move ! (57 ∷ 58 ∷ []) $ free1 ! $ move ! (55 ∷ 56 ∷ []) $ free1 ! $ move ! (53 ∷ 54 ∷ []) $ free1 ! $ move ! (51 ∷ 52 ∷ []) $ free1 ! $ move ! (49 ∷ 50 ∷ []) $ free1 ! $ move ! (1 ∷ 48 ∷ []) $ free1 ! $ move ! (45 ∷ 46 ∷ []) $ free1 ! $ move ! (43 ∷ 44 ∷ []) $ free1 ! $ move ! (41 ∷ 42 ∷ []) $ free1 ! $ move ! (39 ∷ 40 ∷ []) $ free1 ! $ move ! (37 ∷ 38 ∷ []) $ free1 ! $ move ! (35 ∷ 36 ∷ []) $ free1 ! $ move ! (33 ∷ 34 ∷ []) $ free1 ! $ move ! (31 ∷ 32 ∷ []) $ free1 ! $ move ! (29 ∷ 30 ∷ []) $ free1 ! $ move ! (27 ∷ 28 ∷ []) $ free1 ! $ move ! (25 ∷ 26 ∷ []) $ free1 ! $ move ! (23 ∷ 24 ∷ []) $ free1 ! $ move ! (21 ∷ 22 ∷ []) $ free1 ! $ move ! (19 ∷ 20 ∷ []) $ free1 ! $ free0 ! $
