@@ -10,18 +10,21 @@ ghost use Rattle.records_run.specs.Blank.{blanks};
 ghost use Rattle.settlement.specs.Tables.{buffers};
 ghost use Rattle.state.specs.State.{kept};
 
+// An amount that no account has.
+const BLANK: u64 = 18446744073709551615;
+
 // As many records as a sheet may have accounts, each as no account has it.
 fn blank() -> [Account; 1024]
     ensures { λ r. ⌜ r ≡ blanks ⌝ }
 {
     [Account {
-        free: 18446744073709551615,
-        held: 18446744073709551615,
+        free: BLANK,
+        held: BLANK,
     }; 1024]
 }
 
 pub fn is_blank(r: Account) -> bool {
-    r.free == 18446744073709551615 && r.held == 18446744073709551615
+    r.free == BLANK && r.held == BLANK
 }
 
 // The records of the accounts; the places after them are as `blank` has them.

@@ -2,14 +2,15 @@
 // The run stands on standard input. A reading that a refusal ends is that refusal's line, and a long run is the line `long`.
 use crate::lent::is_blank;
 use crate::lent::records_of;
-use crate::reading::is_fine;
 use crate::reading::offer_blocks;
 use crate::reading::open_sheet;
 use account_records::Account;
 use fields::front;
 use refusals::Checked;
+use refusals::Refusal;
 use refusals::number;
 use refusals::place;
+use state::ledger::Ledger;
 use state::ledger::sizes;
 ghost use Prim.Native.Nat.{_≤_};
 
@@ -22,16 +23,11 @@ fn print_field(n: u64) {
 }
 
 // As document 01 prints it.
-fn print_refusal(answer: Checked) {
-    match answer {
-        Checked::Refused(r) => {
-            io::write_all(1, b"refused");
-            print_field(number(r) as u64);
-            print_field(place(r) as u64);
-            io::write_all(1, b"\n");
-        }
-        Checked::Fine => {}
-    }
+fn print_refusal(r: Refusal) {
+    io::write_all(1, b"refused");
+    print_field(number(r) as u64);
+    print_field(place(r) as u64);
+    io::write_all(1, b"\n");
 }
 
 fn print_account(k: u64, r: Account) {
@@ -74,6 +70,28 @@ fn print_records(records: [Account; 1024], a: u16) {
     io::write_all(1, b"\n");
 }
 
+fn print_reading(ledger: Ledger, sheet: &[u8], ranks: &[u32], cites: &[u16], good: &[u8]) {
+    let mut counts = [0u32; 2048];
+    let mut table = [0u8; 1024];
+    let mut order = [0u16; 2048];
+    let mut free = [0u64; 1024];
+    let mut held = [0u64; 1024];
+    let records = records_of(
+        ledger,
+        sheet,
+        ranks,
+        cites,
+        good,
+        &mut counts,
+        &mut table,
+        &mut order,
+        &mut free,
+        &mut held,
+    );
+    let z = sizes(ledger);
+    print_records(records, z.a);
+}
+
 fn print_run(run: &[u8]) {
     let mut sheet = [0u8; 110592];
     let mut ranks = [0u32; 2048];
@@ -83,8 +101,6 @@ fn print_run(run: &[u8]) {
     let mut counts = [0u32; 2048];
     let mut table = [0u8; 1024];
     let mut order = [0u16; 2048];
-    let mut free = [0u64; 1024];
-    let mut held = [0u64; 1024];
     let opened = open_sheet(run, &mut sheet);
     let reached = offer_blocks(
         opened,
@@ -100,24 +116,10 @@ fn print_run(run: &[u8]) {
     );
     let answer = reached.answer;
     let ledger = reached.ledger;
-    if !is_fine(answer) {
-        print_refusal(answer);
-        return;
+    match answer {
+        Checked::Refused(r) => print_refusal(r),
+        Checked::Fine => print_reading(ledger, &sheet, &ranks, &cites, &good),
     }
-    let records = records_of(
-        ledger,
-        &sheet,
-        &ranks,
-        &cites,
-        &good,
-        &mut counts,
-        &mut table,
-        &mut order,
-        &mut free,
-        &mut held,
-    );
-    let z = sizes(ledger);
-    print_records(records, z.a);
 }
 
 fn main() {

@@ -22,7 +22,7 @@ pub struct Reached {
     pub at: usize,
 }
 
-pub fn is_fine(answer: Checked) -> bool {
+fn is_fine(answer: Checked) -> bool {
     match answer {
         Checked::Fine => true,
         Checked::Refused(_) => false,

@@ -7,7 +7,8 @@ use Rattle.records_run.proofs.reading.offer_blocks.Tie as tie
 
 abbrev Inv-loop : tie.InvT-loop
 Inv-loop sheet ranks₀ cuts₀ cites₀ good₀ counts₀ table₀ order₀ run reached₀ calls₀ ranks cuts cites good counts table order reached calls =
-    (length ranks ≡ length ranks₀) × (length cuts ≡ length cuts₀) × (length cites ≡ length cites₀) × (length good ≡ length good₀) × (length counts ≡ length counts₀) × (length table ≡ length table₀) × (length order ≡ length order₀)
+    (length ranks ≡ length ranks₀) × (length cuts ≡ length cuts₀) × (length cites ≡ length cites₀)
+    × (length good ≡ length good₀) × (length counts ≡ length counts₀) × (length table ≡ length table₀) × (length order ≡ length order₀)
 
 abbrev μ-loop : tie.MeasureT-loop
 μ-loop sheet ranks₀ cuts₀ cites₀ good₀ counts₀ table₀ order₀ run reached₀ calls₀ ranks cuts cites good counts table order reached calls = calls
