@@ -12,7 +12,7 @@ use crosscheck::generate::{self, bounds, Run};
 /// and on more.
 const SEEDS: std::ops::RangeInclusive<u64> = 1..=500;
 /// Each bound is to be met so many times.
-const TIMES: usize = 5;
+const TIMES: usize = 4;
 
 /// The runs of the gate that stand at the limits.
 fn runs() -> impl Iterator<Item = Run> {
@@ -36,17 +36,18 @@ fn shown(run: &Run) -> (Vec<Status>, Vec<u32>, Vec<crosscheck::engine::Account>)
 /// A bound, and how a run is changed at the last place that it allows.
 type Change = (&'static str, fn(&mut Run));
 
-const CHANGES: [Change; 13] = [
+const CHANGES: [Change; 14] = [
     ("the operations of transaction 1,023", |run| {
         on(&mut run.sheet.transactions, 1_023, |last| last.operations.clear());
     }),
     ("transaction 1,023, cited", |run| {
         run.offers.iter_mut().for_each(|block| block.citations.retain(|number| *number != 1_023));
     }),
-    ("the start of account 1,023", |run| {
-        // One less: the reading shows it of itself, so the settlements are asked.
+    // The reading shows a start of itself, so the settlements are asked.
+    ("account 1,023, one less", |run| {
         on(&mut run.sheet.starts, 1_023, |start| *start = start.saturating_sub(1));
     }),
+    ("account 1,023, one more", |run| on(&mut run.sheet.starts, 1_023, |start| *start += 1)),
     ("credits to account 1,023", |run| {
         each_credit(run, |credit| *credit = if *credit == 1_023 { 0 } else { *credit });
     }),
@@ -121,7 +122,7 @@ fn readings_hang_on_the_last_places() {
             let before = before.get_or_insert_with(|| shown(&run));
             let after = shown(&changed);
             let differs = match bound {
-                "the start of account 1,023" => before.0 != after.0,
+                "account 1,023, one less" | "account 1,023, one more" => before.0 != after.0,
                 _ => *before != after,
             };
             *seen.entry(bound).or_default() += usize::from(differs);

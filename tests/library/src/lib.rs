@@ -25,7 +25,7 @@ use crosscheck::generate::{self, random::Random, Size};
 
 /// Every so many seeds one stands for a largest run, which `crosscheck` does
 /// not generate: it has more bytes than `readrun` takes.
-const LARGEST: u64 = 1_000;
+const LARGEST: u64 = 500;
 
 /// The bytes that a seed stands for: those of `crosscheck gen`, but for the
 /// largest runs.

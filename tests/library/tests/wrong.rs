@@ -1,11 +1,19 @@
 //! The comparison finds engines that are wrong: the library with one fault
-//! put behind it, each found within some hundred seeds.
+//! put behind it, each found within the seeds of the gate.
 
+#[path = "wrong/last.rs"]
+mod last;
+
+use crosscheck::engine::format::{self, slip_at};
 use crosscheck::engine::Block;
 use crosscheck::generate::random::Random;
 use crosscheck_library::subject::Readings;
 use crosscheck_library::{bytes, check, Counts, Subject};
+use last::Last;
 use rugxeni::{Account, Ledger, Loading, Offer, Refusal};
+
+/// The gate compares the library on so many seeds.
+const SEEDS: u64 = 500;
 
 #[derive(Clone, Copy, Debug, PartialEq)]
 enum Fault {
@@ -32,6 +40,8 @@ enum Fault {
     ReadsEarly,
     /// Counts what is held as free.
     SpendsHeld,
+    /// Is wrong at the last place that a bound allows.
+    AtTheLast(Last),
 }
 
 const FAULTS: [Fault; 12] = [
@@ -57,12 +67,27 @@ struct Wrong {
     accepted: usize,
     /// Blocks in the order in which they came.
     arrivals: Vec<(u16, u16)>,
+    /// The sheet as it is read.
+    sheet: last::Sheet,
 }
 
 impl Wrong {
     fn new(fault: Fault) -> Wrong {
         let (judge, books) = (Ledger::new(), Ledger::new());
-        Wrong { fault, judge, books, accepted: 0, arrivals: Vec::new() }
+        let sheet = last::Sheet::default();
+        Wrong { fault, judge, books, accepted: 0, arrivals: Vec::new(), sheet }
+    }
+
+    /// An offer to both ledgers, the block with a fault at the last place.
+    fn offer_at_the_last(&mut self, fault: Last, block: Option<Block>, answer: Offer) -> Offer {
+        let Some(block) = block else {
+            return answer;
+        };
+        if answer == Offer::Accepted {
+            let booked = Subject::offer_values(&mut self.books, &last::booked(fault, &block));
+            assert_eq!(booked, Offer::Accepted, "a fault is not to be turned away");
+        }
+        last::answer(fault, &block, answer)
     }
 
     /// An offer to both ledgers, as far as the fault lets it.
@@ -112,16 +137,35 @@ impl Wrong {
 
 impl Subject for Wrong {
     fn load(&mut self, run: &[u8], at: usize) -> Result<Loading, Refusal> {
-        let _ = self.books.load_slip(run, at);
-        self.judge.load_slip(run, at)
+        let answer = self.judge.load_slip(run, at);
+        if let Ok(Loading::Next(next)) = answer {
+            let slip = match self.fault {
+                Fault::AtTheLast(fault) => self.sheet.slip(fault, &run[at..next]),
+                _ => run[at..next].to_vec(),
+            };
+            let booked = self.books.load_slip(&slip, 0);
+            assert_eq!(booked, Ok(Loading::Next(slip.len())), "a fault is not to be turned away");
+        }
+        answer
     }
 
     fn offer_slip(&mut self, bytes: &[u8], at: usize) -> Offer {
+        if let Fault::AtTheLast(fault) = self.fault {
+            let m = self.judge.sizes().map_or(0, |sizes| sizes.instances);
+            let slip = slip_at(bytes, at).ok().filter(|slip| slip.kind == 4);
+            let block = slip.and_then(|slip| format::block(slip.body, m));
+            let answer = self.judge.offer_slip(bytes, at);
+            return self.offer_at_the_last(fault, block, answer);
+        }
         self.offer(|ledger| ledger.offer_slip(bytes, at), false)
     }
 
     fn offer_values(&mut self, block: &Block) -> Offer {
         let values = |ledger: &mut Ledger| Subject::offer_values(ledger, block);
+        if let Fault::AtTheLast(fault) = self.fault {
+            let answer = values(&mut self.judge);
+            return self.offer_at_the_last(fault, Some(block.clone()), answer);
+        }
         self.offer(values, true)
     }
 
@@ -141,31 +185,41 @@ impl Subject for Wrong {
                 readings.accounts =
                     readings.accounts.map(|list| list.into_iter().map(spend).collect());
             }
+            Fault::AtTheLast(fault) => self.sheet.readings(fault, &mut readings),
             _ => {}
         }
         readings
     }
 }
 
-/// The seed at which a fault is found, among the first so many.
-fn found(fault: Fault, seeds: u64) -> Option<u64> {
+/// The seed at which a fault is found, among those of the gate.
+fn found(fault: Fault) -> Option<u64> {
     let mut counts = Counts::default();
-    (1..=seeds).find(|seed| {
+    (1..=SEEDS).find(|seed| {
         let mut random = Random::new(!seed);
         check(&bytes(*seed), &mut random, &mut counts, || Wrong::new(fault)).is_err()
     })
 }
 
-#[test]
-fn each_fault_is_found() {
-    for fault in FAULTS {
-        let seed = found(fault, 300);
+fn assert_found(faults: impl IntoIterator<Item = Fault>) {
+    for fault in faults {
+        let seed = found(fault);
         println!("{fault:?}: {seed:?}");
         assert!(seed.is_some(), "{fault:?} is not found");
     }
 }
 
 #[test]
+fn each_fault_is_found() {
+    assert_found(FAULTS);
+}
+
+#[test]
+fn each_fault_at_a_last_place_is_found() {
+    assert_found(last::ALL.map(Fault::AtTheLast));
+}
+
+#[test]
 fn without_a_fault_nothing_is_found() {
-    assert_eq!(found(Fault::None, 300), None);
+    assert_eq!(found(Fault::None), None);
 }

@@ -2,7 +2,8 @@
 //! wrong: the static library with one fault put before it, each found within
 //! the gate's seeds.
 
-use crosscheck::engine::Head;
+use crosscheck::engine::format::{self, slip_at};
+use crosscheck::engine::{Block, Head};
 use crosscheck::generate::random::Random;
 use crosscheck_library::boundary::{Boundary, Buffer, Call, Lent, Library, BUFFERS};
 use crosscheck_library::{bytes, lengths, Counts};
@@ -37,6 +38,10 @@ enum Fault {
     WritesBehind(Buffer),
     /// Takes a longer list of ranks for that of another instance.
     GoesByLength,
+    /// Keeps something else at the last place: of the sheet the body of
+    /// transaction 1,023, of a block its cut entry 15, its citation or outcome
+    /// at place 31, of block 128 its rank.
+    KeepsOtherwise(Buffer),
 }
 
 /// Every fault, those of a buffer for each of them.
@@ -51,6 +56,7 @@ fn faults() -> Vec<Fault> {
         Fault::CountsABlock,
         Fault::GoesByLength,
     ];
+    faults.extend(BUFFERS[..5].iter().copied().map(Fault::KeepsOtherwise));
     for buffer in BUFFERS {
         faults.extend([Fault::Writes(buffer), Fault::WritesBehind(buffer)]);
         faults.extend([Fault::TakesOneShort(buffer), Fault::AsksOneMore(buffer)]);
@@ -77,6 +83,7 @@ impl Boundary for Wrong {
                 let behind = needs.iter().filter(|need| need.0 == buffer);
                 behind.for_each(|(_, least)| lent.put(buffer, *least, 99));
             }
+            (Fault::KeepsOtherwise(buffer), 0) => keep_otherwise(buffer, call, lent),
             _ => {}
         }
         number
@@ -134,6 +141,34 @@ impl Wrong {
             }
             _ => None,
         }
+    }
+}
+
+/// Spoils the last place of what an accepted call has written.
+fn keep_otherwise(buffer: Buffer, call: &Call, lent: &mut Lent) {
+    let [m, a, _, t, _, loaded, ..] = lent.numbers;
+    let block = match call {
+        Call::OfferValues(block) => Some((*block).clone()),
+        Call::OfferSlip(bytes, at) => {
+            slip_at(bytes, *at).ok().and_then(|slip| format::block(slip.body, m))
+        }
+        Call::Load(..) if buffer == Buffer::Sheet && (loaded, t) == (1_024, 1_024) => {
+            lent.put(buffer, 8 * usize::from(a) + 100 * 1_023, 99);
+            None
+        }
+        _ => None,
+    };
+    let Some(Block { instance, number, citations, .. }) = block else {
+        return;
+    };
+    let index = 128 * usize::from(instance) + usize::from(number) - 1;
+    let place = 32 * index + 31;
+    match buffer {
+        Buffer::Ranks if number == 128 => lent.put(buffer, index, 0),
+        Buffer::Cuts => lent.put(buffer, 16 * index + 15, 200),
+        Buffer::Cites if citations.len() == 32 => lent.put(buffer, place, 255),
+        Buffer::Good if citations.len() == 32 => lent.put(buffer, place, 0),
+        _ => {}
     }
 }
 

@@ -19,7 +19,7 @@ pub fn of(random: &mut Random, sheet: &Sheet, logs: &Logs, block: &Block) -> Vec
     (0..random.within(2..=6)).map(|_| faulty[random.place(faulty.len())].clone()).collect()
 }
 
-/// 13, 14 and 15 at the last place, and 15 at any other.
+/// 13, 14 and 15, mostly at the last place.
 fn cited(random: &mut Random, sheet: &Sheet, logs: &Logs, block: &Block) -> Vec<Block> {
     let own = usize::from(block.instance);
     let last = block.citations.len().saturating_sub(1);
@@ -35,10 +35,10 @@ fn cited(random: &mut Random, sheet: &Sheet, logs: &Logs, block: &Block) -> Vec<
     let elsewhere: Vec<u16> = (0..sheet.head.t).filter(elsewhere).collect();
     let unknown = random.pick(&[sheet.head.t, 1_024, 65_535]);
     for list in [&before[..], &elsewhere, &[unknown]] {
-        // A fault where there is one to choose; else the block is as it was.
         if !list.is_empty() {
-            faulty.push(with(block, last, random.pick(list)));
-            faulty.push(with(block, random.place(last + 1), random.pick(list)));
+            let number = random.pick(list);
+            let places = [last, last, random.place(last + 1)];
+            faulty.extend(places.map(|place| with(block, place, number)));
         }
     }
     faulty

@@ -94,7 +94,7 @@ impl Marked {
     }
 
     /// Each account of a marked transaction has what is taken from it, but for
-    /// what it is brought; now and then one less.
+    /// what it is brought; now and then one less, the last one more often.
     fn endow(&self, random: &mut Random, sheet: &mut Sheet) {
         let reserved = [self.payer, self.payee, self.last].into_iter().chain(self.others.clone());
         for account in reserved {
@@ -102,7 +102,7 @@ impl Marked {
             let taken = debits.filter(|debit| debit.account == account);
             let taken: u64 = taken.map(|debit| u64::from(debit.amount)).sum();
             let brought = if account == self.payee { taken } else { 0 };
-            let short = u64::from(random.chance(4));
+            let short = u64::from(random.chance(if account == self.last { 35 } else { 4 }));
             sheet.starts[usize::from(account)] = (taken - brought).saturating_sub(short);
         }
     }
@@ -129,7 +129,9 @@ impl Marked {
     fn wide(&self, random: &mut Random) -> Transaction {
         let amounts: Vec<u32> = (0..4).map(|_| amount(random)).collect();
         let debits = self.others[2..6].iter().copied().zip(amounts.clone());
-        let to = [self.others[0], self.last, self.others[6], self.others[7]];
+        // Where the last account gets something, it may well be covered.
+        let second = random.pick(&[self.last, self.payer]);
+        let to = [self.others[0], second, self.others[6], self.others[7]];
         let credits = to.into_iter().zip(amounts);
         payment(&debits.collect::<Vec<_>>(), &credits.collect::<Vec<_>>())
     }
