@@ -91,9 +91,19 @@ pub fn is_at_the_limits(seed: u64) -> bool {
 /// The bytes that a seed stands for, for `gen` and `compare`.
 pub fn bytes(seed: u64) -> Vec<u8> {
     if is_at_the_limits(seed) {
-        return bounds::run(&mut Random::new(seed)).bytes();
+        return at_the_limits(seed);
     }
     usual(seed)
+}
+
+/// Runs at the limits, some of them damaged at the last transaction.
+fn at_the_limits(seed: u64) -> Vec<u8> {
+    let mut random = Random::new(seed);
+    let run = bounds::run(&mut random);
+    match random.below(100) {
+        0..12 => damage::last_transaction(&mut random, &run),
+        _ => run.bytes(),
+    }
 }
 
 /// Runs of every size but the largest, mostly small and medium ones, some of

@@ -14,14 +14,11 @@ const SEEDS: std::ops::RangeInclusive<u64> = 1..=500;
 /// Each bound is to be met so many times.
 const TIMES: usize = 4;
 
-/// The runs of the gate that stand at the limits.
+/// The runs of the gate that stand at the limits, but for damaged ones.
 fn runs() -> impl Iterator<Item = Run> {
     let at_the_limits = SEEDS.filter(|seed| generate::is_at_the_limits(*seed));
-    at_the_limits.map(|seed| {
-        let run = bounds::run(&mut Random::new(seed));
-        assert!(run.bytes() == generate::bytes(seed));
-        run
-    })
+    let runs = at_the_limits.map(|seed| (seed, bounds::run(&mut Random::new(seed))));
+    runs.filter(|(seed, run)| run.bytes() == generate::bytes(*seed)).map(|(_, run)| run)
 }
 
 /// What a reading shows beside the log.
@@ -36,7 +33,7 @@ fn shown(run: &Run) -> (Vec<Status>, Vec<u32>, Vec<crosscheck::engine::Account>)
 /// A bound, and how a run is changed at the last place that it allows.
 type Change = (&'static str, fn(&mut Run));
 
-const CHANGES: [Change; 14] = [
+const CHANGES: [Change; 17] = [
     ("the operations of transaction 1,023", |run| {
         on(&mut run.sheet.transactions, 1_023, |last| last.operations.clear());
     }),
@@ -84,6 +81,16 @@ const CHANGES: [Change; 14] = [
     ("block 128 of instance 15", |run| {
         let last = |block: &Block| (block.instance, block.number) == (15, 128);
         each_block(run, last, |block| block.citations.clear());
+    }),
+    ("place 31 of block 128 of instance 15", |run| {
+        let last = |block: &Block| (block.instance, block.number) == (15, 128);
+        each_block(run, last, |block| block.citations.truncate(31));
+    }),
+    ("places 30 and 31 in their order", |run| {
+        each_block(run, |block| block.citations.len() == 32, |block| block.citations.swap(30, 31));
+    }),
+    ("entries of 128", |run| {
+        each_block(run, |_| true, |block| block.cut.iter_mut().for_each(|n| *n = 127.min(*n)));
     }),
 ];
 

@@ -84,7 +84,7 @@ impl Wrong {
             return answer;
         };
         if answer == Offer::Accepted {
-            let booked = Subject::offer_values(&mut self.books, &last::booked(fault, &block));
+            let booked = Subject::offer_values(&mut self.books, &self.sheet.booked(fault, &block));
             assert_eq!(booked, Offer::Accepted, "a fault is not to be turned away");
         }
         last::answer(fault, &block, answer)
@@ -222,4 +222,5 @@ fn each_fault_at_a_last_place_is_found() {
 #[test]
 fn without_a_fault_nothing_is_found() {
     assert_eq!(found(Fault::None), None);
+    assert_eq!(found(Fault::AtTheLast(Last::Nothing)), None);
 }

@@ -30,7 +30,7 @@ pub fn run(random: &mut Random) -> Run {
             delivery: Delivery::new(random, &sheet, &pace),
             noise: random.pick(&[0, 60, 60, 90]),
         };
-        deliverer.deliver(random, lists);
+        deliverer.deliver(random, lists, &marked);
         deliverer.delivery.offers
     };
     Run { sheet, offers }
@@ -47,14 +47,22 @@ struct Lists {
 /// One instance may get all its 128 blocks, most of them without citations.
 fn lists(random: &mut Random, sheet: &Sheet, marked: &Marked) -> Vec<Lists> {
     let last = sheet.head.t - 1;
-    let full = random.chance(50).then(|| last_or_any(random, sheet.instances()));
+    let any = last_or_any(random, sheet.instances());
+    let full = random.pick(&[None, None, Some(any), Some(marked.crowded.into())]);
     // A view is worked out for each citation: most full sheets are not cited
     // through, so that many of them can be read.
     let full_sheet = sheet.transactions.len() > 200;
-    let forgotten = random.pick(if full_sheet { &[85, 85, 85, 85, 85, 60] } else { &[0, 0, 30] });
+    let forgotten = match random.below(12) {
+        0 => 0,
+        1 if full_sheet => 60,
+        _ if full_sheet => 85,
+        1..6 => 30,
+        _ => 0,
+    };
     let of = |instance: usize| {
         let mut pool: Vec<u16> = (0..=last)
             .filter(|number| !sheet.part(usize::from(*number), instance).is_empty())
+            .filter(|number| *number != marked.after)
             .filter(|number| marked.is_marked(*number) || !random.chance(forgotten))
             .collect();
         let wait = match pool.len() {
@@ -95,9 +103,8 @@ struct Deliverer<'a> {
 
 impl Deliverer<'_> {
     /// The early blocks, the instances in any order; the late ones, that of a
-    /// full instance last; then a block of each instance that has room, with a
-    /// rank above all, so that whatever came before is in the log.
-    fn deliver(&mut self, random: &mut Random, lists: Vec<Lists>) {
+    /// full instance last; then what closes the run.
+    fn deliver(&mut self, random: &mut Random, lists: Vec<Lists>, marked: &Marked) {
         let mut early: Vec<_> = lists.iter().map(|lists| lists.early.iter()).collect();
         loop {
             let left: usize = early.iter().map(ExactSizeIterator::len).sum();
@@ -120,17 +127,36 @@ impl Deliverer<'_> {
                 self.offer(random, instance, citations, None);
             }
         }
-        let top = self.delivery.logs.all().map(|block| block.rank).max().unwrap_or(0);
-        let rank = if random.chance(25) { u32::MAX } else { top + 1 };
-        for instance in 0..lists.len() {
-            if self.delivery.logs.of(instance).len() < MOST_BLOCKS {
-                self.offer(random, instance, Vec::new(), Some(rank));
-            }
-        }
+        self.close(random, marked);
         self.refused(random, faults::at_the_end);
     }
 
-    /// The next block of an instance, faulty ones perhaps before it.
+    /// A block of each instance that has room, with a rank above all, so that
+    /// whatever came before is in the log; now and then one instance stays
+    /// behind. Then a block that cites what hangs on all of this.
+    fn close(&mut self, random: &mut Random, marked: &Marked) {
+        let m = self.delivery.logs.instances();
+        let behind = random.chance(15).then(|| last_or_any(random, m));
+        let top = self.delivery.logs.all().map(|block| block.rank).max().unwrap_or(0);
+        let rank = match random.below(8) {
+            0 => u32::MAX,
+            1 => u32::MAX - 1,
+            _ => top + 1,
+        };
+        let has_room = |logs: &Logs, instance: usize| logs.of(instance).len() < MOST_BLOCKS;
+        for instance in (0..m).filter(|instance| behind != Some(*instance)) {
+            if has_room(&self.delivery.logs, instance) {
+                self.offer(random, instance, Vec::new(), Some(rank));
+            }
+        }
+        let heir = usize::from(marked.heir) % m;
+        if rank < u32::MAX && has_room(&self.delivery.logs, heir) {
+            self.offer(random, heir, vec![marked.after], Some(rank + 1));
+        }
+    }
+
+    /// The next block of an instance, faulty ones perhaps before it. One with a
+    /// given rank has seen all that is there.
     fn offer(
         &mut self,
         random: &mut Random,
@@ -138,8 +164,14 @@ impl Deliverer<'_> {
         citations: Vec<u16>,
         rank: Option<u32>,
     ) {
+        let logs = &self.delivery.logs;
         let mut block = self.delivery.citing(random, instance, citations);
-        block.rank = rank.unwrap_or(block.rank);
+        if let Some(rank) = rank {
+            block.rank = rank;
+            for (entry, count) in block.cut.iter_mut().enumerate().take(logs.instances()) {
+                *count = logs.of(entry).len() as u16;
+            }
+        }
         let many = block.citations.len() == MOST_CITATIONS;
         if random.chance(if many { self.noise } else { self.noise / 10 }) {
             self.refused(random, |random, sheet, logs| faults::of(random, sheet, logs, &block));

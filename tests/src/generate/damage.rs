@@ -33,6 +33,22 @@ pub fn one_fault(random: &mut Random, run: &Run) -> Vec<u8> {
     slips.concat()
 }
 
+/// A run with a damage at its last transaction: not there, there twice, with a
+/// fault, or the run's last slip.
+pub fn last_transaction(random: &mut Random, run: &Run) -> Vec<u8> {
+    let mut slips = run.slips();
+    let place = 1 + run.sheet.transactions.len();
+    match random.below(4) {
+        0 => {
+            slips.remove(place);
+        }
+        1 => slips.insert(place, slips[place].clone()),
+        2 => slips.truncate(place + random.place(2)),
+        _ => replace(random, &mut slips, place, field_faults(run, place)),
+    }
+    slips.concat()
+}
+
 /// One damage.
 fn damage(random: &mut Random, run: &Run, slips: &mut Vec<Vec<u8>>) {
     let place = random.place(slips.len());

@@ -9,6 +9,8 @@ use rugxeni::{Offer, Refusal, Settlement};
 
 #[derive(Clone, Copy, Debug, PartialEq)]
 pub enum Last {
+    /// Nothing is wrong: sheet, blocks and log are as they are here.
+    Nothing,
     /// The operations of transaction 1,023 are lost.
     OperationsLost,
     /// So are those on register 63, and the eighth of any contract.
@@ -25,8 +27,11 @@ pub enum Last {
     PlaceNotBooked,
     BlockNotBooked,
     InstanceNotBooked,
-    /// Entry 15 of a cut is taken for 0.
+    /// The citations at places 30 and 31 are booked in the other order.
+    PlacesSwapped,
+    /// Entry 15 of a cut is taken for 0, or an entry of 128 for 127.
     EntryNotSeen,
+    BlockNotSeen,
     /// A citation at place 31 that repeats place 30 is accepted.
     RepetitionAccepted,
     /// A refusal of this number at place 31, or at entry 15, is not given.
@@ -44,9 +49,14 @@ pub enum Last {
     NothingHeld,
     NotInTheShare,
     NotInTheLog,
+    /// The log with a bar that instance 15 has no part in; without blocks of
+    /// the highest rank; with instance 15 behind instance 0 of the next rank.
+    NotInTheBar,
+    HighestNotInTheLog,
+    BehindTheNext,
 }
 
-pub const ALL: [Last; 26] = [
+pub const ALL: [Last; 31] = [
     Last::OperationsLost,
     Last::RegisterLost,
     Last::OperationLost,
@@ -57,7 +67,9 @@ pub const ALL: [Last; 26] = [
     Last::PlaceNotBooked,
     Last::BlockNotBooked,
     Last::InstanceNotBooked,
+    Last::PlacesSwapped,
     Last::EntryNotSeen,
+    Last::BlockNotSeen,
     Last::RepetitionAccepted,
     Last::PlaceAccepted(13),
     Last::PlaceAccepted(14),
@@ -73,6 +85,9 @@ pub const ALL: [Last; 26] = [
     Last::NothingHeld,
     Last::NotInTheShare,
     Last::NotInTheLog,
+    Last::NotInTheBar,
+    Last::HighestNotInTheLog,
+    Last::BehindTheNext,
 ];
 
 const TRANSACTION: usize = 1_023;
@@ -86,11 +101,12 @@ const POSTING: usize = 3;
 /// The greatest start: it covers whatever is taken.
 const ENOUGH: u64 = 1 << 40;
 
-/// The sheet's slips, one by one, as a fault has them.
+/// The sheet's slips, one by one, as a fault has them, and what was accepted.
 #[derive(Default)]
 pub struct Sheet {
     head: Option<Head>,
     transactions: usize,
+    blocks: Vec<Block>,
     /// What account 1,023 has more than it should, modulo 2^64.
     more: u64,
 }
@@ -126,6 +142,50 @@ impl Sheet {
         changed.unwrap_or(slip.to_vec())
     }
 
+    /// An accepted block, and what a fault books of it.
+    pub fn booked(&mut self, fault: Last, block: &Block) -> Block {
+        self.blocks.push(block.clone());
+        let mut block = block.clone();
+        match fault {
+            Last::PlaceNotBooked => block.citations.truncate(PLACE),
+            Last::BlockNotBooked if block.number == BLOCK => block.citations.clear(),
+            Last::InstanceNotBooked if block.instance == INSTANCE => block.citations.clear(),
+            Last::PlacesSwapped if block.citations.len() > PLACE => {
+                block.citations.swap(PLACE - 1, PLACE);
+            }
+            Last::EntryNotSeen if block.instance != INSTANCE => {
+                block.cut[usize::from(INSTANCE)] = 0;
+            }
+            Last::BlockNotSeen => {
+                block.cut.iter_mut().for_each(|count| *count = (*count).min(BLOCK - 1));
+            }
+            _ => {}
+        }
+        block
+    }
+
+    /// The log as a fault has it: by a bar, and by keys of blocks.
+    fn log(&self, fault: Last) -> Vec<(u16, u16)> {
+        let m = self.head.map_or(0, |head| head.m);
+        let key = |rank: u64, instance: u16| rank * 16 + u64::from(instance);
+        let of = |block: &Block| key(block.rank.into(), block.instance);
+        let asked = if fault == Last::NotInTheBar { m.min(INSTANCE) } else { m };
+        let last =
+            |i: u16| self.blocks.iter().filter(|block| block.instance == i).max_by_key(|b| of(b));
+        let lasts: Option<Vec<&Block>> = (0..asked).map(last).collect();
+        let least = lasts.unwrap_or_default().into_iter().min_by_key(|block| of(block));
+        let bar = least.map_or(0, |block| key(u64::from(block.rank) + 1, block.instance));
+        let mut log: Vec<&Block> = self.blocks.iter().filter(|block| of(block) < bar).collect();
+        log.sort_by_key(|block| match (fault, block.instance) {
+            (Last::BehindTheNext, INSTANCE) => 2 * key(u64::from(block.rank) + 1, 0) + 1,
+            _ => 2 * of(block),
+        });
+        if fault == Last::HighestNotInTheLog {
+            log.retain(|block| block.rank < u32::MAX);
+        }
+        log.iter().map(|block| (block.instance, block.number)).collect()
+    }
+
     /// Readings, and what a fault makes of them.
     pub fn readings(&self, fault: Last, readings: &mut Readings) {
         match fault {
@@ -153,6 +213,9 @@ impl Sheet {
                     let share = (settled * 1000).checked_div(settlements.len()).unwrap_or(1000);
                     readings.share = Ok(share as u32);
                 }
+            }
+            Last::Nothing | Last::NotInTheBar | Last::HighestNotInTheLog | Last::BehindTheNext => {
+                readings.log = readings.log.clone().map(|_| self.log(fault));
             }
             Last::NotInTheLog => {
                 if let Ok(log) = &mut readings.log {
@@ -186,19 +249,6 @@ fn elsewhere(postings: &mut [Posting], accounts: u16, step: u16) {
             .find(|account| account % step == last.account % step && !taken.contains(account));
         last.account = other.unwrap_or(last.account);
     }
-}
-
-/// An accepted block, and what a fault books of it.
-pub fn booked(fault: Last, block: &Block) -> Block {
-    let mut block = block.clone();
-    match fault {
-        Last::PlaceNotBooked => block.citations.truncate(PLACE),
-        Last::BlockNotBooked if block.number == BLOCK => block.citations.clear(),
-        Last::InstanceNotBooked if block.instance == INSTANCE => block.citations.clear(),
-        Last::EntryNotSeen if block.instance != INSTANCE => block.cut[usize::from(INSTANCE)] = 0,
-        _ => {}
-    }
-    block
 }
 
 /// What a fault answers to a block.

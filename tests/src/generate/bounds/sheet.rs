@@ -7,12 +7,14 @@ use crate::generate::sheets;
 
 /// Accounts are this many, or as many as there can be.
 const FEW_ACCOUNTS: u64 = 40;
+/// What the last transaction but one brings, and the last one needs.
+const LAST_UNIT: u32 = 1;
 
 /// A sheet's sizes, and what its marked transactions are about.
 pub struct Marked {
     head: Head,
     /// The instance in which most transactions have a part.
-    crowded: u16,
+    pub crowded: u16,
     /// Accounts that no small payment names, each with its role:
     /// pays the one that is to be paid, in the last instance;
     payer: u16,
@@ -20,13 +22,17 @@ pub struct Marked {
     payee: u16,
     /// has the last number;
     last: u16,
-    /// in the crowded instance, and anywhere.
+    /// has nothing but what the last transaction brings;
+    pub heir: u16,
+    /// two in the crowded instance, the others anywhere.
     others: Vec<u16>,
     /// Numbers: the payer's payment, a contract that sets the last register,
-    /// a payment with four debits and credits, and the last transaction.
+    /// a payment with four debits and credits, the last two transactions, and
+    /// after all others the heir's payment.
     feed: u16,
     setter: u16,
     wide: u16,
+    pub after: u16,
 }
 
 impl Marked {
@@ -45,45 +51,55 @@ impl Marked {
         };
         let payer = take(random, &|account| account % m == m - 1);
         let payee = take(random, &|account| account % m != m - 1);
+        let heir = take(random, &|account| account % m != m - 1 && account % m != crowded);
         let mut others = vec![take(random, &|account| account % m == crowded)];
-        others.extend((0..7).map(|_| take(random, &|_| true)));
+        others.push(take(random, &|account| account % m == crowded));
+        others.extend((0..6).map(|_| take(random, &|_| true)));
         let third = u64::from(t / 3);
-        let feed = random.below(third) as u16;
+        let feed = random.below(third / 2) as u16;
+        let after = (third / 2 + random.below(third / 2)) as u16;
         let setter = (third + random.below(third)) as u16;
-        let wide = (2 * third + random.below(third - 1)) as u16;
-        Marked { head, crowded, payer, payee, last, others, feed, setter, wide }
+        let wide = (2 * third + random.below(third - 2)) as u16;
+        Marked { head, crowded, payer, payee, last, heir, others, feed, setter, wide, after }
     }
 
     pub fn is_marked(&self, number: u16) -> bool {
-        [self.feed, self.setter, self.wide, self.head.t - 1].contains(&number)
+        let last = self.head.t - 1;
+        [self.feed, self.setter, self.wide, last - 1, last].contains(&number)
+    }
+
+    /// The accounts that no small payment names.
+    fn reserved(&self) -> Vec<u16> {
+        [&[self.payer, self.payee, self.last, self.heir], &self.others[..]].concat()
     }
 
     /// The complete sheet.
     pub fn sheet(&self, random: &mut Random) -> Sheet {
-        let reserved = |account: &u16| {
-            [self.payer, self.payee, self.last].contains(account) || self.others.contains(account)
-        };
-        let common: Vec<u16> = (0..self.head.a).filter(|account| !reserved(account)).collect();
+        let reserved = self.reserved();
+        let common = (0..self.head.a).filter(|account| !reserved.contains(account));
+        let common: Vec<u16> = common.collect();
         let starts = (0..self.head.a).map(|_| random.below(12)).collect();
         let mut sheet = Sheet { head: self.head, starts, transactions: Vec::new() };
         // What the registers hold once both contracts are paid.
         let mut registers = vec![0; self.head.g.into()];
-        let brought = amount(random);
+        let (brought, left) = (amount(random), amount(random));
         for number in 0..self.head.t {
             let transaction = if number == self.feed {
                 payment(&[(self.payer, brought)], &[(self.payee, brought)])
+            } else if number == self.after {
+                payment(&[(self.heir, left)], &[(self.payer, left)])
             } else if number == self.setter {
                 let amount = amount(random);
                 let count = random.within(1..=8);
                 let operations = operations(random, &mut registers, count);
-                let sides = [(self.others[0], amount), (self.others[1], amount)];
+                let sides = [(self.others[0], amount), (self.others[2], amount)];
                 Transaction { operations, ..contract(&sides[..1], &sides[1..], &[]) }
             } else if number == self.wide {
                 self.wide(random)
+            } else if number == self.head.t - 2 {
+                payment(&[(self.others[1], LAST_UNIT)], &[(self.others[0], LAST_UNIT)])
             } else if number == self.head.t - 1 {
-                let count = random.pick(&[8, 8, 8, 1, 2, 7]);
-                let operations = operations(random, &mut registers, count);
-                Transaction { operations, ..self.last(random, brought) }
+                self.last(random, [brought, left], &mut registers)
             } else {
                 self.small(random, &common)
             };
@@ -96,13 +112,16 @@ impl Marked {
     /// Each account of a marked transaction has what is taken from it, but for
     /// what it is brought; now and then one less, the last one more often.
     fn endow(&self, random: &mut Random, sheet: &mut Sheet) {
-        let reserved = [self.payer, self.payee, self.last].into_iter().chain(self.others.clone());
-        for account in reserved {
+        for account in self.reserved() {
             let debits = sheet.transactions.iter().flat_map(|transaction| &transaction.debits);
             let taken = debits.filter(|debit| debit.account == account);
             let taken: u64 = taken.map(|debit| u64::from(debit.amount)).sum();
-            let brought = if account == self.payee { taken } else { 0 };
-            let short = u64::from(random.chance(if account == self.last { 35 } else { 4 }));
+            let brought = match account {
+                _ if [self.payee, self.heir].contains(&account) => taken,
+                _ if account == self.others[0] => LAST_UNIT.into(),
+                _ => 0,
+            };
+            let short = u64::from(random.chance(if account == self.last { 35 } else { 2 }));
             sheet.starts[usize::from(account)] = (taken - brought).saturating_sub(short);
         }
     }
@@ -130,24 +149,34 @@ impl Marked {
         let amounts: Vec<u32> = (0..4).map(|_| amount(random)).collect();
         let debits = self.others[2..6].iter().copied().zip(amounts.clone());
         // Where the last account gets something, it may well be covered.
-        let second = random.pick(&[self.last, self.payer]);
-        let to = [self.others[0], second, self.others[6], self.others[7]];
+        let second = random.pick(&[self.last, self.payer, self.payer]);
+        let to = [self.others[1], second, self.others[6], self.others[7]];
         let credits = to.into_iter().zip(amounts);
         payment(&debits.collect::<Vec<_>>(), &credits.collect::<Vec<_>>())
     }
 
-    /// The last transaction: a contract that spends what the payee was
-    /// brought, and all of the last account.
-    fn last(&self, random: &mut Random, brought: u32) -> Transaction {
+    /// The last transaction: a contract, mostly, that spends what the payee was
+    /// brought and all of the last account, and leaves something to the heir.
+    fn last(
+        &self,
+        random: &mut Random,
+        [brought, left]: [u32; 2],
+        registers: &mut [u32],
+    ) -> Transaction {
         let from = [self.payee, self.others[0], self.others[6], self.last];
-        let amounts = [brought, amount(random), amount(random), amount(random)];
-        let to = [self.payer, self.others[1], self.others[2], self.others[3]];
+        let amounts = [brought, left, amount(random), amount(random)];
+        let to = [self.payer, self.heir, self.others[4], self.others[3]];
         let debits: Vec<_> = from.into_iter().zip(amounts).collect();
         let mut credits: Vec<_> = to.into_iter().zip(amounts).collect();
         if random.chance(50) {
             credits[3].0 = self.last;
         }
-        contract(&debits, &credits, &[])
+        if random.chance(15) {
+            return payment(&debits, &credits);
+        }
+        let count = random.pick(&[8, 8, 8, 1, 2, 7]);
+        let operations = operations(random, registers, count);
+        Transaction { operations, ..contract(&debits, &credits, &[]) }
     }
 }
 
