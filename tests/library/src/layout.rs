@@ -1,9 +1,31 @@
-//! What the lent buffers hold, by `docs/BUFFERS.md`.
+//! The lent buffers by `docs/BUFFERS.md`: how long they have to be, and what
+//! they hold.
 
 use crosscheck::engine::{write, Block, Head, Ledger, Status};
 
-use crate::boundary::Lent;
+use crate::boundary::{Buffer, Call, Lent};
 use crate::check::{same, Difference};
+
+/// What a call lends, in its order, with the least lengths: the tables of
+/// `docs/BUFFERS.md`. All sizes are 0 before the head is known. `log` is the
+/// length of the global log.
+pub fn needs(call: &Call, head: &Head, log: usize) -> Vec<(Buffer, usize)> {
+    use Buffer::*;
+    let [m, a, g, t] = [head.m, head.a, head.g, head.t].map(usize::from);
+    let sheet = (Sheet, 8 * a + 100 * t);
+    let kept = [sheet, (Ranks, 128 * m), (Cuts, 2048 * m), (Cites, 4096 * m), (Good, 4096 * m)];
+    let working = [(Counts, 2 * t), (Table, t), (Order, 128 * m)];
+    let filled: &[(Buffer, usize)] = match call {
+        Call::Load(..) => return vec![sheet],
+        Call::OfferSlip(..) | Call::OfferValues(_) => return [&kept[..], &working].concat(),
+        Call::Log => return vec![kept[1], (Instances, log), (Sequences, log)],
+        Call::Accounts => &[(Free, a), (Held, a)],
+        Call::Registers => &[(Values, g)],
+        Call::Settlements => &[(Statuses, t)],
+        Call::Share => &[],
+    };
+    [&kept[..2], &kept[3..], &working, filled].concat()
+}
 
 /// What all readings together have filled.
 pub fn filled(ledger: &Ledger, lent: &Lent) -> Result<(), Difference> {

@@ -16,7 +16,7 @@ use crosscheck::generate::random::Random;
 
 use crate::boundary::{Boundary, Buffer, Call, Lent, BUFFERS, READINGS};
 use crate::check::{same, Counts, Difference};
-use crate::layout;
+use crate::layout::{self, needs};
 
 /// Nothing left, to load or to offer.
 const NOTHING_LEFT: u16 = 255;
@@ -28,27 +28,6 @@ const MOMENTS: u64 = 2;
 
 /// The number that a call returns, and what it tells.
 type Returned = (u16, [u64; 2]);
-
-/// What a call lends, in its order, with the least lengths: the tables of
-/// `docs/BUFFERS.md`. All sizes are 0 before the head is known. `log` is the
-/// length of the global log.
-pub fn needs(call: &Call, head: &Head, log: usize) -> Vec<(Buffer, usize)> {
-    use Buffer::*;
-    let [m, a, g, t] = [head.m, head.a, head.g, head.t].map(usize::from);
-    let sheet = (Sheet, 8 * a + 100 * t);
-    let kept = [sheet, (Ranks, 128 * m), (Cuts, 2048 * m), (Cites, 4096 * m), (Good, 4096 * m)];
-    let working = [(Counts, 2 * t), (Table, t), (Order, 128 * m)];
-    let filled: &[(Buffer, usize)] = match call {
-        Call::Load(..) => return vec![sheet],
-        Call::OfferSlip(..) | Call::OfferValues(_) => return [&kept[..], &working].concat(),
-        Call::Log => return vec![kept[1], (Instances, log), (Sequences, log)],
-        Call::Accounts => &[(Free, a), (Held, a)],
-        Call::Registers => &[(Values, g)],
-        Call::Settlements => &[(Statuses, t)],
-        Call::Share => &[],
-    };
-    [&kept[..2], &kept[3..], &working, filled].concat()
-}
 
 /// Compares the calls of a boundary, with buffers of every length, with the
 /// second engine on a run.

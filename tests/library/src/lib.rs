@@ -9,7 +9,7 @@
 //! * [`check`] — the comparisons of one run;
 //! * [`boundary`] — the same calls with the buffers that they are lent;
 //! * [`lengths`] — refusal 16, and buffers longer than they have to be;
-//! * [`layout`] — what the lent buffers hold.
+//! * [`layout`] — how long the lent buffers have to be, and what they hold.
 
 pub mod boundary;
 pub mod check;

@@ -6,7 +6,7 @@ use crosscheck::engine::format::{self, slip_at};
 use crosscheck::engine::{Block, Head};
 use crosscheck::generate::random::Random;
 use crosscheck_library::boundary::{Boundary, Buffer, Call, Lent, Library, BUFFERS};
-use crosscheck_library::{bytes, lengths, Counts};
+use crosscheck_library::{bytes, layout, lengths, Counts};
 
 /// The gate compares the library on so many seeds.
 const SEEDS: u64 = 500;
@@ -188,7 +188,7 @@ fn needs(call: &Call, lent: &Lent) -> Vec<(Buffer, usize)> {
         }
         _ => 0,
     };
-    lengths::needs(call, &Head { m, a, g, t }, log)
+    layout::needs(call, &Head { m, a, g, t }, log)
 }
 
 /// The least length of the first short buffer, or of the last; 0 if none is.
