@@ -120,10 +120,15 @@ def terminals_and_signals():
         judge("a program that is killed", ended(process), (b"", b"readrun: the program was ended by signal 9\n", 137))
 
 
-def small_stack():
-    limit = 1 << 20
-    bound = lambda: resource.setrlimit(resource.RLIMIT_STACK, (limit, limit))
-    judge("a stack of 1 MiB", run([PROGRAM], sent=example("full.run"), preexec_fn=bound), (example("full.reading"), b"", 0))
+def with_stack(words, size):
+    return run(words, sent=example("full.run"), preexec_fn=lambda: resource.setrlimit(resource.RLIMIT_STACK, (size, size)))
+
+
+def stacks():
+    """docs/TRUST.md has how much the program needs. With less the system ends it before it writes."""
+    judge("a stack of 1 MiB", with_stack([PROGRAM], 1 << 20), (example("full.reading"), b"", 0))
+    judge("a stack of 512 KiB, program", with_stack([PROGRAM], 1 << 19), (b"", b"", -signal.SIGSEGV))
+    judge("a stack of 512 KiB, script", with_stack([SCRIPT], 1 << 19), (b"", b"readrun: the program was ended by signal 11\n", 139))
 
 
 if __name__ == "__main__":
@@ -140,7 +145,7 @@ if __name__ == "__main__":
         failed_writes()
         arguments()
         terminals_and_signals()
-        small_stack()
+        stacks()
         first_use()
     print(f"{len(verdicts)} cases, {sum(verdicts)} as they should be")
     sys.exit(not all(verdicts))
