@@ -1,4 +1,5 @@
 -- Laws that the layers above cite, and the theorem `one-writing`.
+pub mod Clauses
 pub mod Lengths
 pub mod SmallTrips
 pub mod TransactionTrip

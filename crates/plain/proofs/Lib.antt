@@ -1,5 +1,6 @@
 -- What acceptance keeps, and that an engine which keeps to its contract follows the plain ledger.
 pub mod AnswerLaws
+pub mod Clauses
 pub mod Engine
 pub mod GrownLaws
 pub mod Admits

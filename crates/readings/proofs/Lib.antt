@@ -1,4 +1,5 @@
 -- The readings, call by call.
+pub mod Clauses
 pub mod RoomLaws
 pub mod SettledLaws
 pub mod ReadLaws

@@ -1,5 +1,6 @@
--- Numbers in and out of the boundary, its calls, and demand 3 over lists of them (`over-boundary`).
+-- Numbers in and out of the boundary, its calls, what their clauses give, and demand 3 over lists of them (`over-boundary`).
 pub mod NumberLaws
 pub mod CallLaws
+pub mod Clauses
 pub mod Carried
 pub mod OverBoundary
