@@ -5,7 +5,7 @@ use Rattle.account_records.proofs.fill.record_at.Tie as tie
 
 returns : tie.Need-returns
 unfolding recordAt
-returns c = cc
+returns c = rw (c .before .amount-at .ensures, c .amount-at2 .ensures)
 
 pub record-at-spec : {M : Type 1} → statement M
 record-at-spec =

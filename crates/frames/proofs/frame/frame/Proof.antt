@@ -24,7 +24,7 @@ returns-5 c = sym (frame-body-short (now (c .before .before .before .before .bef
 returns-6 : tie.Need-returns-6
 returns-6 c =
     let e = frame-whole (now (c .before .before .before .before .before .before .before .before .args .run)) (c .before .before .before .before .before .before .before .before .args .at) (omega arith) (omega arith) (omega arith) (omega arith) (omega arith) in
-    cc (c .u16-at .ensures, c .before .before .before .before .u32-at .ensures)
+    rw (c .u16-at .ensures, c .before .before .before .before .u32-at .ensures) (sym e)
 
 pub frame-spec : {M : Type 1} → statement M
 frame-spec =

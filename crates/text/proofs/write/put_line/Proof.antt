@@ -3,7 +3,7 @@ use borrow.Author.Needs.{needs}
 use lib.ListN.{length}
 use native.Mathlib.Omega.{arith}
 use Rattle.text.proofs.LineLaws.{fields-none, fields-turn, fieldsTo, line-done}
-use Rattle.text.proofs.WroteLaws.{wrote-length}
+use Rattle.text.proofs.WroteLaws.{wrote-length, wrote-then}
 use Rattle.text.proofs.write.put_line.Statement.{statement}
 use Rattle.text.proofs.write.put_line.Tie as tie
 use Rattle.text.specs.Wrote.{Wrote}
@@ -21,7 +21,7 @@ loop-again : tie.Need-loop-again Inv-loop μ-loop
 loop-again c = (omega arith, fields-turn (c .before .before .before .before .before .before .before .before .before .before .before .before .before .before .args .numbers .now) _ (omega arith) (c .before .before .before .before .before .before .loop .inv .1) (c .before .before .put-field .ensures))
 
 same-length : tie.Need-same-length Inv-loop μ-loop
-same-length c = wrote-length (line-done (c .before .before .before .before .before .before .before .before .before .before .before .before .before .args .word .now) (c .before .before .before .before .before .before .before .before .before .before .before .before .before .args .numbers .now) _ (c .before .before .before .before .loop-test .left) (c .before .before .before .before .before .before .before .before .put-word .ensures) (c .before .before .before .before .before .loop .inv .1) (c .before .before .put-byte .ensures))
+same-length c = wrote-length (wrote-then (c .before .before .before .before .before .before .before .before .put-word .ensures) (wrote-then (c .before .before .before .before .before .loop .inv .1) (c .before .before .put-byte .ensures)))
 
 returns : tie.Need-returns Inv-loop μ-loop
 returns c = line-done (c .before .before .before .before .before .before .before .before .before .before .before .before .before .args .word .now) (c .before .before .before .before .before .before .before .before .before .before .before .before .before .args .numbers .now) _ (c .before .before .before .before .loop-test .left) (c .before .before .before .before .before .before .before .before .put-word .ensures) (c .before .before .before .before .before .loop .inv .1) (c .before .before .put-byte .ensures)
