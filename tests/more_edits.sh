@@ -9,7 +9,7 @@ copy=$(mktemp -d)
 trap 'rm -rf "$copy"' EXIT
 cp -R crates crates.txt "$copy"
 mkdir "$copy/tests"
-cp tests/wrong_engines.py "$copy/tests"
+cp tests/wrong_engines.py tests/verdicts.py tests/generated.py "$copy/tests"
 [ ! -d target ] || cp -R target "$copy"
 cd "$copy"
 rm -rf crates/*/must-fail target/must-fail
