@@ -1,5 +1,9 @@
 #!/usr/bin/env python3
-"""The definitions that promises rest on, counted: `python3 docs/src/trusted_text.py` prints them file by file.
+"""The definitions that promises rest on, counted file by file.
+
+    trusted_text.py            prints the tables
+    trusted_text.py --write    writes them into docs/generated/trusted-text.md
+    trusted_text.py --check    compares them with that file
 
 Roots are the contracts (`requires`, `ensures`) of the crates that a user calls, and the claim of demand 3. From there every
 definition of `specs/` that a definition names is followed. Lines are counted without comments, `use` lines and empty lines."""
@@ -8,10 +12,16 @@ import os
 import re
 import sys
 
+ROOT = os.path.join(os.path.dirname(os.path.abspath(__file__)), "../..")
+sys.path.insert(0, os.path.join(ROOT, "tests"))
+import generated  # noqa: E402
+
+TABLE = "docs/generated/trusted-text.md"
 GROUPS = [
     ("demand 3", [("demand", "Claim", "Demand")], []),
     ("the calls for loading, offers and readings", [], ["state", "offers", "readings", "account_records"]),
     ("the text of a reading", [], ["report"]),
+    ("the readers of slips and their fields", [], ["fields", "refusals", "transactions", "frames"]),
     ("the writers", [("encoding", "OneWriting", "EachKind")], ["frames_write", "transactions_write"]),
     ("the boundary of the static library", [], ["rugxeni"]),
     ("the bounds on what is lent", [("extent", "Claim", "TextFits"), ("extent", "Buffers", "BuffersFit"), ("report", "Reports", "ReportFits")], []),
@@ -137,11 +147,12 @@ def reached(roots, files):
     return seen, declared
 
 
-def main():
+def main(word):
     files, before, structs = Files(), set(), set()
     order = [l.split(":")[0] for l in open("crates.txt")]
     lines_of = lambda items: sum(len(files.get(c, p)[0][n]) for c, p, n in items)
-    print("| Rests on | Definitions | Lines | Of these not in a row above |\n|---|---|---|---|")
+    out = ["<!-- written by `python3 docs/src/trusted_text.py --write`; the gate compares -->", "# The definitions that promises rest on", ""]
+    out += ["| Rests on | Definitions | Lines | Of these not in a row above |", "|---|---|---|---|"]
     for title, claims, crates in GROUPS:
         roots = list(claims)
         for crate in crates:
@@ -150,17 +161,22 @@ def main():
         seen, declared = reached(roots, files)
         structs |= declared
         new = seen - before
-        print(f"| {title} | {len(seen)} | {lines_of(seen)} | {lines_of(new)} |")
+        out.append(f"| {title} | {len(seen)} | {lines_of(seen)} | {lines_of(new)} |")
         before |= seen
-    print(f"| all | {len(before)} | {lines_of(before)} | |")
+    out.append(f"| all | {len(before)} | {lines_of(before)} | |")
     rows = {}
     for crate, path, name in before:
         rows.setdefault((crate, path), []).append(name)
-    print("\n| File | Definitions | Lines | Names |\n|---|---|---|---|")
+    out += ["", "| File | Definitions | Lines | Names |", "|---|---|---|---|"]
     for (crate, path), names in sorted(rows.items(), key=lambda r: (order.index(r[0][0]), r[0][1])):
         lines = lines_of((crate, path, n) for n in names)
-        print(f"| {crate}/{path} | {len(names)} | {lines} | {', '.join('`' + n + '`' for n in sorted(names))} |")
-    print(f"\n{len(rows)} files; {len(structs)} structs and enums of `src/` are named beside them.")
+        out.append(f"| {crate}/{path} | {len(names)} | {lines} | {', '.join('`' + n + '`' for n in sorted(names))} |")
+    out += ["", f"{len(rows)} files; {len(structs)} structs and enums of `src/` are named beside them."]
+    return generated.put(TABLE, "\n".join(out) + "\n", word)
 
 
-main()
+if __name__ == "__main__":
+    if sys.argv[1:] not in ([], ["--write"], ["--check"]):
+        sys.exit(__doc__)
+    os.chdir(ROOT)
+    sys.exit(main("".join(sys.argv[1:])))
