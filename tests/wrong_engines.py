@@ -40,6 +40,7 @@ RECORDS = [
     ("account_records", "Records", ["ReadsBeside", "ReadsRecords"]),
     ("rugxeni", "Numbers", ["Said"]),
     ("rugxeni", "Boundary", ["LoadCall", "OfferCall", "ReadCall"]),
+    ("replay", "Inner", ["Opens", "PutsBlocks"]),
     ("report", "Reports", ["Spared", "Reports"]),
 ]
 
