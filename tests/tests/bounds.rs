@@ -4,9 +4,9 @@
 use std::collections::BTreeMap;
 
 use crosscheck::engine::text::LONGEST_RUN;
-use crosscheck::engine::{Block, Ledger, Logs, Refusal, Status, Transaction};
+use crosscheck::engine::{Block, Draft, Ledger, Logs, Refusal, Status, Transaction};
 use crosscheck::generate::random::Random;
-use crosscheck::generate::{self, bounds, Run};
+use crosscheck::generate::{self, bounds, damage, Run};
 
 /// The gate compares the static library on these seeds, and `readrun` on them
 /// and on more.
@@ -139,6 +139,24 @@ fn readings_hang_on_the_last_places() {
     for (bound, _) in CHANGES {
         assert!(seen.get(bound).is_some_and(|times| *times >= TIMES), "{bound}: too rare");
     }
+}
+
+/// A fault at any place of a transaction's lists is refused.
+#[test]
+fn faults_at_every_place_are_refused() {
+    let mut seen: BTreeMap<u8, usize> = BTreeMap::new();
+    for run in runs() {
+        for transaction in run.sheet.transactions.iter().rev().take(3) {
+            for slip in damage::place_faults(&run.sheet.head, transaction) {
+                let mut sheet = run.sheet.clone();
+                sheet.transactions.pop();
+                let refused = Draft::Begun(sheet).take(&slip, 0);
+                *seen.entry(refused.map_or_else(|refusal| refusal.number, |_| 0)).or_default() += 1;
+            }
+        }
+    }
+    println!("{seen:?}");
+    assert_eq!(seen.keys().copied().collect::<Vec<u8>>(), [5, 6, 7]);
 }
 
 /// The answers at last places and entries, as (number, place).

@@ -11,7 +11,7 @@
 use std::fmt::{self, Debug, Display};
 
 use crosscheck::engine::format::{self, slip_at};
-use crosscheck::engine::{Block, Engine, Ledger};
+use crosscheck::engine::{Block, Draft, Engine, Ledger};
 use crosscheck::generate::damage;
 use crosscheck::generate::random::Random;
 use crosscheck::replay::{self, Offer as Replayed};
@@ -139,7 +139,7 @@ fn sheet<S: Subject>(
 ) -> Result<Option<(Engine, usize)>, Difference> {
     let (mut engine, mut at) = (Engine::new(), 0);
     while engine.ledger().is_err() {
-        if random.chance(10) {
+        if random.chance(10) || last_transaction_is_due(&engine) {
             early(run, at, random, counts, subject, &mut engine)?;
             spoiled(run, at, random, counts, subject, &engine)?;
         }
@@ -162,8 +162,16 @@ fn sheet<S: Subject>(
     Ok(Some((engine, at)))
 }
 
-/// The slip that is due, spoiled in every shape and in one byte: refused, it
-/// leaves the sound one to be loaded.
+fn last_transaction_is_due(engine: &Engine) -> bool {
+    let Draft::Begun(sheet) = engine.draft() else {
+        return false;
+    };
+    sheet.transactions.len() + 1 == usize::from(sheet.head.t)
+}
+
+/// The slip that is due, spoiled in every shape and in one byte, the last
+/// transaction at every place of its lists: refused, it leaves the sound one to
+/// be loaded.
 fn spoiled<S: Subject>(
     run: &[u8],
     at: usize,
@@ -180,6 +188,12 @@ fn spoiled<S: Subject>(
     let mut one_byte = sound.to_vec();
     one_byte[random.place(sound.len())] = random.bits() as u8;
     faulty.push(one_byte);
+    if let Draft::Begun(sheet) = engine.draft() {
+        let transaction =
+            format::transaction(slip.body).filter(|_| last_transaction_is_due(engine));
+        let at_each_place = transaction.map(|sound| damage::place_faults(&sheet.head, &sound));
+        faulty.extend(at_each_place.unwrap_or_default());
+    }
     for slip in faulty {
         // A fault may be none; then the slip is not fed to either.
         if let Err(refusal) = engine.clone().feed(&slip, 0) {

@@ -146,7 +146,12 @@ impl Subject for Wrong {
             let booked = self.books.load_slip(&slip, 0);
             assert_eq!(booked, Ok(Loading::Next(slip.len())), "a fault is not to be turned away");
         }
-        answer
+        match (self.fault, answer) {
+            (Fault::AtTheLast(fault), Err(refusal)) if last::takes(fault, &run[at..], refusal) => {
+                Ok(Loading::Next(run.len()))
+            }
+            _ => answer,
+        }
     }
 
     fn offer_slip(&mut self, bytes: &[u8], at: usize) -> Offer {

@@ -33,18 +33,22 @@ pub fn one_fault(random: &mut Random, run: &Run) -> Vec<u8> {
     slips.concat()
 }
 
-/// A run with a damage at its last transaction: not there, there twice, with a
-/// fault, or the run's last slip.
+/// A run with a damage at its last transaction: not there, there twice, the
+/// run's last slip, or with a fault.
 pub fn last_transaction(random: &mut Random, run: &Run) -> Vec<u8> {
     let mut slips = run.slips();
     let place = 1 + run.sheet.transactions.len();
-    match random.below(4) {
+    match random.below(6) {
         0 => {
             slips.remove(place);
         }
         1 => slips.insert(place, slips[place].clone()),
         2 => slips.truncate(place + random.place(2)),
-        _ => replace(random, &mut slips, place, field_faults(run, place)),
+        3 => replace(random, &mut slips, place, field_faults(run, place)),
+        _ => {
+            let last = &run.sheet.transactions[place - 2];
+            replace(random, &mut slips, place, place_faults(&run.sheet.head, last));
+        }
     }
     slips.concat()
 }
@@ -238,6 +242,35 @@ pub fn transaction_faults(head: &Head, sound: &Transaction) -> Vec<Vec<u8>> {
     let (above, below) = (postings(&[(0, u32::MAX), (1, 4)]), postings(&[(0, 2), (1, 1)]));
     with(&|t| (t.debits, t.credits) = (above.clone(), below.clone()));
     with(&|t| (t.debits, t.credits) = (below.clone(), above.clone()));
+    faulty
+}
+
+/// Refusals 5, 6 and 7 at each place of each list: a field out of range, an
+/// account of each two places the same, a sum one more or less.
+pub fn place_faults(head: &Head, sound: &Transaction) -> Vec<Vec<u8>> {
+    let mut faulty = Vec::new();
+    let lists: [fn(&mut Transaction) -> &mut Vec<Posting>; 2] =
+        [|transaction| &mut transaction.debits, |transaction| &mut transaction.credits];
+    let mut with = |change: &dyn Fn(&mut Transaction)| {
+        let mut changed = sound.clone();
+        change(&mut changed);
+        faulty.push(write::transaction(&changed));
+    };
+    for list in lists {
+        let postings = list(&mut sound.clone()).clone();
+        for (place, posting) in postings.iter().enumerate() {
+            with(&|t| list(t)[place].account = head.a);
+            with(&|t| list(t)[place].amount = 0);
+            with(&|t| list(t)[place].amount = posting.amount ^ 1);
+            for other in 0..place {
+                with(&|t| list(t)[other].account = posting.account);
+            }
+        }
+    }
+    for place in 0..sound.operations.len() {
+        with(&|t| t.operations[place].code = 5);
+        with(&|t| t.operations[place].register = head.g as u8);
+    }
     faulty
 }
 

@@ -37,6 +37,12 @@ pub enum Last {
     /// A refusal of this number at place 31, or at entry 15, is not given.
     PlaceAccepted(u16),
     EntryAccepted(u16),
+    /// The same account in debits 2 and 3, or in credits 2 and 3, is taken, or
+    /// debit 3 of an account that is not there, or an operation 7 of no code.
+    DebitTwice,
+    CreditTwice,
+    DebitOfNobody,
+    OperationOfNoCode,
     /// Block 129 is accepted, or instance 16 of 16.
     BlockAccepted,
     InstanceAccepted,
@@ -56,7 +62,7 @@ pub enum Last {
     BehindTheNext,
 }
 
-pub const ALL: [Last; 31] = [
+pub const ALL: [Last; 35] = [
     Last::OperationsLost,
     Last::RegisterLost,
     Last::OperationLost,
@@ -76,6 +82,10 @@ pub const ALL: [Last; 31] = [
     Last::PlaceAccepted(15),
     Last::EntryAccepted(11),
     Last::EntryAccepted(12),
+    Last::DebitTwice,
+    Last::CreditTwice,
+    Last::DebitOfNobody,
+    Last::OperationOfNoCode,
     Last::BlockAccepted,
     Last::InstanceAccepted,
     Last::BlockRefused,
@@ -248,6 +258,23 @@ fn elsewhere(postings: &mut [Posting], accounts: u16, step: u16) {
         let other = (0..accounts)
             .find(|account| account % step == last.account % step && !taken.contains(account));
         last.account = other.unwrap_or(last.account);
+    }
+}
+
+/// Whether a fault takes a transaction that is refused.
+pub fn takes(fault: Last, slip: &[u8], refusal: Refusal) -> bool {
+    let transaction = slip_at(slip, 0).ok().and_then(|read| format::transaction(read.body));
+    let Some(Transaction { debits, credits, operations, .. }) = transaction else {
+        return false;
+    };
+    let twice =
+        |list: &[Posting]| list.len() == 4 && list[POSTING].account == list[POSTING - 1].account;
+    match (fault, refusal.number) {
+        (Last::DebitTwice, 6) => twice(&debits),
+        (Last::CreditTwice, 6) => twice(&credits),
+        (Last::DebitOfNobody, 5) => debits.get(POSTING).is_some_and(|last| last.account == 1_024),
+        (Last::OperationOfNoCode, 5) => operations.get(OPERATION).is_some_and(|last| last.code > 4),
+        _ => false,
     }
 }
 
