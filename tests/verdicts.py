@@ -4,12 +4,13 @@ A refusal counts only where a stated fact does not hold. That a proof's own text
 binders, an obligation that another one has replaced) says nothing: the same error would meet a body that the contract admits. So an error is one of
 
     fact     a goal that the prover tried and could not have, by one of the wordings below
-    open     nothing is said: what it rests on was not admitted, a step of the proof did not apply, the prover came to a bound of its own, or another
-             obligation stands where the proof is put together
+    open     nothing is said: what it rests on was not admitted, a step of the proof did not apply, the prover came to a bound of its own, or a slice's
+             length is carried on from something else
     shape    everything else
 
 and a wrong body is refused for a fact where its own function's proof has a fact and no shape among its errors. Where the prover says itself that a proof
-would do with a definition opened, that is shape, too.
+would do with a definition opened, that is shape, too. A body with a statement more has an obligation more, so that its proof cannot be put together; of
+such a body that one error does not count, neither way.
 """
 import re
 
@@ -32,19 +33,23 @@ OPEN = [
     re.compile(r"^`simp`: no equation of the list has an instance in the goal "),
     re.compile(r"`cc` met a bound of its own"),
 ]
-# Another proposition is no fact where the proof is put together, nor where a slice's length is carried on.
+# Another proposition is no fact where a slice's length is carried on, and where the proof is put together it is another obligation.
 # (The functions of a cycle of calls have one declaration, `+even+odd-spec`, with all that is to be shown in it.)
 MISMATCH = FACTS[2:6]
 # what is said of a function with no proof file, where the proof that is tried of itself does not do
 UNCLOSED = "`search` does not close"
-FITTED = re.compile(r"^(same-length(-\d+)?|[^+].*-spec)$")
+PUT_TOGETHER = re.compile(r"^[^+].*-spec$")
+CARRIED_ON = re.compile(r"^same-length(-\d+)?$")
 
 
 def verdict(declaration, words):
     if FOLLOWS.search(words):
         return "open"
-    if FITTED.match(declaration or "") and any(kind.search(words) for kind in MISMATCH):
-        return "open"
+    if any(kind.search(words) for kind in MISMATCH):
+        if PUT_TOGETHER.match(declaration or ""):
+            return "shape"
+        if CARRIED_ON.match(declaration or ""):
+            return "open"
     if any(kind.search(words) for kind in FACTS):
         return "fact"
     return "open" if any(kind.search(words) for kind in OPEN) else "shape"
@@ -82,9 +87,10 @@ class Log:
     def words_of(self, chosen):
         return {"shape" if (file, declaration) in self.held else verdict(declaration, words) for file, declaration, words in chosen}
 
-    def refused_in(self, function):
-        """Why a wrong body is not refused for a fact in its own function; empty where it is."""
-        found = self.words_of(e for e in self.errors if function in self.functions(e[0]))
+    def refused_in(self, function, added=False):
+        """Why a wrong body is not refused for a fact in its own function; empty where it is. added: it has a statement more."""
+        own = [e for e in self.errors if function in self.functions(e[0])]
+        found = self.words_of(e for e in own if not (added and PUT_TOGETHER.match(e[1] or "")))
         if UNCLOSED in self.unproved.get(function, ""):
             found.add("fact")
         where = "::".join(function)
@@ -133,7 +139,7 @@ SAMPLES = [
     ("returns-2", "`rw`: no part of the goal `Path ℕ a b`\n  is an instance of `?0 + 1`", "open"),
     ("returns", "`simp`: no equation of the list has an instance in the goal `Post c`.", "open"),
     ("same-length-7", "computed as far as they go, the two types differ only where one has `.order` (expected) and the other has `.table` (found)", "open"),
-    ("put-within-spec", "expected type `Need-same-length-8`\n  but this has type `Need-returns`", "open"),
+    ("put-within-spec", "expected type `Need-same-length-8`\n  but this has type `Need-returns`", "shape"),
     ("returns", "`c .before` has no field `if1`", "shape"),
     ("returns", "this λ has 2 binders, but its type has room for only 1: at `κs` the type is `k-op2 T21`\n  which is not a function", "shape"),
     ("cast-t28", "`tie.Need-cast-t28`: module `log.Tie` has no `Need-cast-t28` that can be named from here", "shape"),
@@ -153,6 +159,8 @@ SAMPLE_LOG = """
 /t/proofs/Clauses.antt:2:1: note: a trial run of this declaration was admitted by the kernel. That run had the line `unfolding twice`. (in `open`)
 /t/proofs/Clauses.antt:5:3: error: `law`: computed as far as they go, the two types are `a ≡ b`
   (expected) and `a ≡ a` (found)
+/t/proofs/bytes/add/Proof.antt:9:3: error: `returns`: `omega`: the goal does not follow from what it read. All of that holds
+/t/proofs/bytes/add/Proof.antt:12:1: error: `add-spec`: this λ has 2 binders, but its type has room for only 1: at `κs` the type is `InSlice s`
 fn c::low: no proof: expected `low-spec` in /t/proofs/low/Proof.antt; `search` does not close `returns`
 fn c::next: no proof: expected `next-spec` in /t/proofs/next/Proof.antt; it calls `c::low`, which is not proved
 """
@@ -161,18 +169,21 @@ fn c::next: no proof: expected `next-spec` in /t/proofs/next/Proof.antt; it call
 def selftest():
     wrong = [f"{d}: {w.splitlines()[0]}: {verdict(d, w)}, and it is to be {due}" for d, w, due in SAMPLES if verdict(d, w) != due]
     log = Log("c", SAMPLE_LOG)
-    put, get, low = ("bytes", "put"), ("bytes", "get"), ("low",)
+    put, get, add, low = ("bytes", "put"), ("bytes", "get"), ("bytes", "add"), ("low",)
     asked = [
         (log.refused_in(put), ""),
         (log.refused_in(get), "the proof of bytes::get no longer fits the code's shape"),
         (log.refused_in(("bytes", "top")), "no fact fails in bytes::top"),
+        (log.refused_in(add), "the proof of bytes::add no longer fits the code's shape"),
+        (log.refused_in(add, added=True), ""),
+        (log.refused_in(get, added=True), "the proof of bytes::get no longer fits the code's shape"),
         (log.refused_in(low), ""),
         (log.refused_in(("next",)), "no fact fails in next"),
         (log.refused_law("law"), ""),
         (log.refused_law("lemma"), "lemma still holds"),
         (log.refused_law("open"), "the proof of open no longer fits"),
-        ([where for where, _ in log.disturbed({put, get})], ["proofs/Clauses.antt `open`", "proofs/Clauses.antt `law`", "low"]),
-        ([where for where, _ in log.disturbed({get, low})],
+        ([where for where, _ in log.disturbed({put, get, add})], ["proofs/Clauses.antt `open`", "proofs/Clauses.antt `law`", "low"]),
+        ([where for where, _ in log.disturbed({get, add, low})],
          ["proofs/bytes/put/Proof.antt `returns`", "proofs/Clauses.antt `open`", "proofs/Clauses.antt `law`"]),
     ]
     wrong += [f"{got!r}, and it is to be {due!r}" for got, due in asked if got != due]

@@ -153,7 +153,7 @@ def judged(crate, found, log):
             reason = log.refused_anywhere()
         else:
             changed.add(function)
-            reason = log.refused_in(function)
+            reason = log.refused_in(function, all(old.strip() in new and old.count(";") < new.count(";") for _, old, new in engine.replacements))
         if reason:
             wrong[engine.label] = reason
     return wrong, log.disturbed(changed) if changed else []
