@@ -1,6 +1,6 @@
 #!/usr/bin/env bash
 # The long comparison: readrun against the second engine on a million generated runs, most of them small, and the named
-# ones; about an hour on one core. Then the static library on some thousand, every answer and every reading.
+# ones; about an hour on one core. Then the account records and the static library on some thousand, every answer and every reading.
 #
 #     bash tests/long.sh [RUNS [FIRST-SEED [LIBRARY-RUNS]]]      1000000 1 20000
 #
@@ -16,7 +16,7 @@ build() { cargo build --quiet --locked --offline --release --manifest-path "$1/C
 
 echo "proving and building what is compared; what has not changed is passed over" >&2
 mkdir -p target/compare
-rt check readrun >target/compare/readrun.log
+rt check readrun records_run >target/compare/readrun.log
 if [ "$library" -gt 0 ]; then
     rt staticlib rugxeni >target/compare/staticlib.log 2>&1
     build tests/library
@@ -25,4 +25,7 @@ build tests
 cd target/compare
 "$tests/target/release/crosscheck" cases "$program"
 "$tests/target/release/crosscheck" long "$program" "$runs" "$seed"
-if [ "$library" -gt 0 ]; then "$tests/library/target/release/crosscheck-library" "$library" "$seed"; fi
+if [ "$library" -gt 0 ]; then
+    "$tests/target/release/crosscheck" records "${program%readrun}records_run" "$library" "$seed"
+    "$tests/library/target/release/crosscheck-library" "$library" "$seed"
+fi
