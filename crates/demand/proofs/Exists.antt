@@ -178,10 +178,17 @@ first-suffice S l cells o e = record {
   good = omega (arith, length-replicate {A = ℕ} (leastLengths l .good) 0);
 }
 
-pub chains-exist : ChainsExist
+-- the calls, from buffers that hold the sheet's cells on
+pub calls-exist : (S : Sheet) (l : Ledger) (cells : List ℕ) → Opening l cells S → complete l ≡ true → (os : List Offer) → All Lends os
+    → (K : Kept) × (K .sheet ≡ cells) × (l' : Ledger) × (K' : Kept) × Calls l K (eventsFrom S (emptyLogs S) os) l' K'
 unfolding first
-chains-exist S l cells o e os lends =
+calls-exist S l cells o e os lends =
     let K = first l cells in
     let U : InUse S [] l K = record { first = l; lent = K; opened = o; whole = e; calls = stop } in
     let (l', K', c) = calls-from S (Q S [] l K U) os lends l K (emptyLogs S) (begins S [] l K U) (first-suffice S l cells o e) in
-    (l', K', record { first = l; lent = K; opened = o; whole = e; calls = c })
+    (K, refl, l', K', c)
+
+pub chains-exist : ChainsExist
+chains-exist S l cells o e os lends =
+    let (K, q, l', K', c) = calls-exist S l cells o e os lends in
+    (l', K', record { first = l; lent = K; opened = subst (λ (x : List ℕ). Opening l x S) (sym q) o; whole = e; calls = c })

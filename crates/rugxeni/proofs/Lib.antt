@@ -4,3 +4,4 @@ pub mod CallLaws
 pub mod Clauses
 pub mod Carried
 pub mod OverBoundary
+pub mod Exists

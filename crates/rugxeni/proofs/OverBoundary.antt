@@ -31,7 +31,7 @@ use Rattle.sums.specs.Test.{pick}
 
 -- ---- the sheet
 
-opening-over : {n cells : List ℕ} {S : Sheet} → BoundaryOpening n cells S → (size ≤ length n) × Opening (ledgerIn n) cells S
+pub opening-over : {n cells : List ℕ} {S : Sheet} → BoundaryOpening n cells S → (size ≤ length n) × Opening (ledgerIn n) cells S
 opening-over (begin {n} {cells} h e) = (h, subst (λ (l : Ledger). Opening l cells noSheet) (sym (fresh-numbers n e)) chain.begin)
 opening-over (load {n} {cells} {run} {told} {n'} {cells'} {told'} {at} {code} {S} o h c) =
     let (k, e) = load-carried n run at cells told code n' cells' told' h c in

@@ -9,10 +9,12 @@ use mathlib.Core.List.{List, [], _∷_}
 use mathlib.Core.Path.{_≡_}
 use Rattle.demand.specs.Chain.{Event, InUse, SameFront, SameLedger, asked, noSheet, offered, sheetAfter}
 use Rattle.demand.specs.Claim.{Agree, Read, logsOf}
+use Rattle.demand.specs.Exists.{Lends, eventsFrom}
 use Rattle.frames.specs.Frame.{bodyAt}
 use Rattle.frames_load.specs.Load.{room}
 use Rattle.offers.specs.Offering.{replyOf}
 use Rattle.plain.specs.Answer.{Answer, accepted, isAccepted, noOffer, refused}
+use Rattle.plain.specs.Logs.{emptyLogs}
 use Rattle.plain.specs.Offers.{Offer, lentOf, offerNeeds}
 use Rattle.plain.specs.Plain.{lentAnswer}
 use Rattle.plain.specs.Report.{Query, workNeeds}
@@ -24,6 +26,7 @@ use Rattle.sheets.specs.Sheet.{Sheet}
 use Rattle.state.specs.Lengths.{leastLengths}
 use Rattle.state.specs.State.{Kept, complete, kept, lengthsOf, sheetOf}
 use Rattle.state.specs.declared.load.Taken.{Taken}
+use Rattle.sums.specs.Seq.{All}
 use Rattle.sums.specs.Test.{pick}
 
 -- ---- what a call's contract says to those who lend 22 numbers
@@ -103,7 +106,12 @@ pub record BoundaryUse (S : Sheet) (es : List Event) (n : List ℕ) (K : Kept) :
   pub whole : complete (ledgerIn first) ≡ true
   pub calls : BoundaryCalls first lent es n K
 
--- ---- the claim
+-- ---- the claims
+
+-- for every sheet that the boundary's calls loaded and every list of offers there is a list of its calls with these events
+abbrev pub BoundaryChainsExist : Type 0
+BoundaryChainsExist = (S : Sheet) (n cells : List ℕ) → BoundaryOpening n cells S → complete (ledgerIn n) ≡ true → (os : List Offer) → All Lends os
+    → (n' : List ℕ) × (K' : Kept) × BoundaryUse S (eventsFrom S (emptyLogs S) os) n' K'
 
 -- the answer by a code that was returned and the place that was told: 0 is accepted, 255 no offer
 unfoldable pub answerBy : ℕ → ℕ → Answer
