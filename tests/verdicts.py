@@ -1,6 +1,6 @@
 """What an error of the prover says about a wrong engine.
 
-A refusal counts only where a stated fact does not hold. That a proof's own text no longer fits the code (a field that is gone, a λ with other
+A refusal counts only where the prover says of a stated fact that it could not have it; that is no disproof (docs/AUDIT.md, "Wrong engines"). That a proof's own text no longer fits the code (a field that is gone, a λ with other
 binders, an obligation that another one has replaced) says nothing: the same error would meet a body that the contract admits. So an error is one of
 
     fact     a goal that the prover tried and could not have, by one of the wordings below
