@@ -8,3 +8,4 @@ pub mod FrameTrip
 pub mod WritingLaws
 pub mod VerdictLaws
 pub mod OneWriting
+pub mod Rows

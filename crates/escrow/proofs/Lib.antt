@@ -7,3 +7,4 @@ pub mod FullView
 pub mod Growth
 pub mod Totals
 pub mod AmountCells
+pub mod Rows

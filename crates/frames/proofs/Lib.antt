@@ -4,3 +4,4 @@ pub mod HeaderLaws
 pub mod BalancesLaws
 pub mod BlockLaws
 pub mod StepLaws
+pub mod Rows

@@ -1,3 +1,4 @@
 -- Laws that the layers above cite.
 pub mod CheckLaws
 pub mod BodyLaws
+pub mod Rows
