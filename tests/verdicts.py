@@ -1,7 +1,8 @@
 """What an error of the prover says about a wrong engine.
 
-A refusal counts only where the prover says of a stated fact that it could not have it; that is no disproof (docs/AUDIT.md, "Wrong engines"). That a proof's own text no longer fits the code (a field that is gone, a λ with other
-binders, an obligation that another one has replaced) says nothing: the same error would meet a body that the contract admits. So an error is one of
+A refusal counts only where the prover says of a stated fact that it could not have it. That a proof's own text no longer fits the code (a field that is gone,
+a λ with other binders, an obligation that another one has replaced) says nothing: the same error would meet a body that the contract admits. Nor is a
+failed proof a disproof, whatever it says: what was changed is also run or computed, and has to be seen to be wrong (tests/witness/). An error is one of
 
     fact     a goal that the prover tried and could not have, by one of the wordings below
     open     nothing is said: what it rests on was not admitted, a step of the proof did not apply, the prover came to a bound of its own, or a slice's
@@ -86,6 +87,10 @@ class Log:
 
     def words_of(self, chosen):
         return {"shape" if (file, declaration) in self.held else verdict(declaration, words) for file, declaration, words in chosen}
+
+    def facts(self):
+        """The file and the declaration of each error that is a fact."""
+        return [(file, declaration) for file, declaration, words in self.errors if self.words_of([(file, declaration, words)]) == {"fact"}]
 
     def refused_in(self, function, added=False):
         """Why a wrong body is not refused for a fact in its own function; empty where it is. added: it has a statement more."""

@@ -12,7 +12,8 @@ Each begins with a line that says what is right, and then has its replacements:
     wrong_engines.py table            each public function, each clause and their engines; fails where a function has fewer than two in the gate or
                                       a clause has none. `table --write` writes docs/generated/wrong-engines.md, `table --check` compares it
     wrong_engines.py selftest         the rule of tests/verdicts.py on sample errors
-    wrong_engines.py refused [DIR]    reads the logs that the prover left in DIR (target/must-fail); see tests/verdicts.py for what counts
+    wrong_engines.py refused [DIR]    reads the logs that the prover left in DIR (target/must-fail); see tests/verdicts.py for what counts.
+                                      That they are wrong and not only refused is for tests/witness/ to see
 """
 import collections
 import glob
