@@ -8,7 +8,8 @@ definition of a rule by rows that are computed from it (definitions.py).
     run.py [NAME...]    those of all crates, or of the named ones; fails where an engine is not seen to be wrong. Before that the changes of
                         right/NAME.edit, other words for the same: fails where one of them is seen to be wrong
 
-Lost clauses, and what is changed in the claims of `demand`, `rugxeni` and `extent`, are not tried here: nothing can be run or computed of them.
+Lost clauses, and what is changed in specs/ above the rules (claims, lists of calls, what arrays say), are not tried here: they are not run, and no row
+is computed from them.
 """
 import concurrent.futures
 import os
