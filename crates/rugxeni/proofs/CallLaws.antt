@@ -7,15 +7,19 @@ use mathlib.Core.List.{List}
 use mathlib.Core.Path.{_≡_, ap, refl, subst, sym}
 use native.Mathlib.Omega.{arith}
 use Rattle.admission.specs.Replies.{replyTo}
+use Rattle.encoding.specs.Writing.{Wrote}
+use Rattle.encoding.specs.declared.emit.Written.{Written}
 use Rattle.frames.specs.declared.block.Block.{Block}
+use Rattle.frames.specs.declared.step.Loading.{Loading}
 use Rattle.offers.specs.Offering.{Offers, replyOf}
 use Rattle.offers.specs.declared.answer.Offered.{Offered}
 use Rattle.plain.specs.Answer.{Answer, isAccepted}
 use Rattle.plain.specs.Offers.{Offer}
 use Rattle.plain.specs.Report.{Query}
 use Rattle.readings.specs.Reading.{Reads}
-use Rattle.rugxeni.specs.Boundary.{LoadCall, OfferCall, ReadCall}
-use Rattle.rugxeni.specs.Numbers.{Said, isTaken, ledgerIn, loadNumber, loadPlace, numberOf, numbersOf, placeOf, size}
+use Rattle.refusals.specs.declared.Checked.{Checked}
+use Rattle.rugxeni.specs.Boundary.{LoadCall, OfferCall, ReadCall, WriteCall}
+use Rattle.rugxeni.specs.Numbers.{Said, isTaken, ledgerIn, loadNumber, loadPlace, numberOf, numbersOf, placeOf, size, writtenNumber, writtenPlace}
 use Rattle.settlement.specs.Tables.{Buffers}
 use Rattle.state.specs.Loading.{LoadsSheet}
 use Rattle.state.specs.State.{Kept}
@@ -49,3 +53,11 @@ module _ {numbers : List ℕ} {K : Kept} {W : Buffers} {q : Query} {outs : List 
   pub read-done : {W' : Buffers} {outs' : List (List ℕ)} → size ≤ length numbers → (l : Ledger) (a : Answer) (n : ℕ) → l ≡ ledgerIn numbers → Reads l K W q outs a n W' outs'
       → Said (numberOf a) (placeOf a) n code told told' → ReadCall numbers K W q outs told code W' outs' told'
   read-done h l a n e p s = record { short = λ u. absurd (omega arith); reads = λ u. (a, n, rw (sym e) p, s) }
+
+module _ {numbers : List ℕ} {checked : Loading → Checked} {frame : Loading → List ℕ} {out told : List ℕ} {code : ℕ} {told' : List ℕ} where
+  pub write-short : length numbers < size → Said 16 size 0 code told told' → WriteCall numbers checked frame out told code out told'
+  write-short h s = record { short = λ u. (s, refl); writes = λ u. absurd (omega arith) }
+
+  pub write-done : {out' : List ℕ} → size ≤ length numbers → (l : Ledger) (w : Written) → l ≡ ledgerIn numbers → Wrote (checked (l .loading)) (frame (l .loading)) out out' w
+      → Said (writtenNumber w) (writtenPlace w) 0 code told told' → WriteCall numbers checked frame out told code out' told'
+  write-done h l w e p s = record { short = λ u. absurd (omega arith); writes = λ u. (w, rw (sym e) p, s) }

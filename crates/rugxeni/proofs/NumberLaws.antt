@@ -38,5 +38,8 @@ two-told (x ∷ y ∷ l) p v = refl
 pub said : (code at value : ℕ) (l l' l'' : List ℕ) → l' ≡ set l 0 at → l'' ≡ set l' 1 value → Said code at value code l l''
 said code at value l l' l'' e q = record { returned = refl; written = q ∙ ap (λ (k : List ℕ). set k 1 value) e ∙ two-told l at value }
 
+pub said-by : {n n' p p' v v' code : ℕ} {l l' : List ℕ} → n ≡ n' → p ≡ p' → v ≡ v' → Said n p v code l l' → Said n' p' v' code l l'
+said-by e q t s = record { returned = s .returned ∙ e; written = s .written ∙ rw (q, t) refl }
+
 pub said-as : {n n' p p' v code : ℕ} {l l' : List ℕ} → n ≡ n' → p ≡ p' → Said n p v code l l' → Said n' p' v code l l'
-said-as e q s = record { returned = s .returned ∙ e; written = s .written ∙ rw q refl }
+said-as e q s = said-by e q refl s

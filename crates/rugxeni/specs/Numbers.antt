@@ -5,6 +5,8 @@ use lib.ListN.{getD}
 use mathlib.Core.Bool.{Bool, false, true}
 use mathlib.Core.List.{List, [], _∷_}
 use mathlib.Core.Path.{_≡_}
+use Rattle.encoding.specs.declared.emit.Written.{Written}
+use Rattle.frames.specs.declared.frame.Framed.{Framed}
 use Rattle.plain.specs.Answer.{Answer, accepted, noOffer, refused}
 use Rattle.refusals.specs.Refusals.{refusalNumber, refusalPlace}
 use Rattle.state.specs.declared.ledger.Ledger.{Ledger}
@@ -35,6 +37,37 @@ abbrev pub placeOf : Answer → ℕ
 placeOf accepted = 0
 placeOf (refused n p) = p
 placeOf noOffer = 0
+
+-- where a text was written its length stands for the place
+abbrev pub lengthOr : ℕ → Answer → ℕ
+lengthOr n accepted = n
+lengthOr n (refused k p) = p
+lengthOr n noOffer = 0
+
+-- of a writer: 0 and how many bytes it wrote, or the refusal's number and place
+abbrev pub writtenNumber : Written → ℕ
+writtenNumber (Written.Bytes n) = 0
+writtenNumber (Written.Refused r) = refusalNumber r
+
+abbrev pub writtenPlace : Written → ℕ
+writtenPlace (Written.Bytes n) = n
+writtenPlace (Written.Refused r) = refusalPlace r
+
+-- of the frame at an offset: 0, where it ends, and its kind; the refusal's number and place; or 255 where no byte is left
+abbrev pub frameNumber : Framed → ℕ
+frameNumber (Framed.Whole kind start end) = 0
+frameNumber (Framed.Refused r) = refusalNumber r
+frameNumber Framed.End = 255
+
+abbrev pub framePlace : Framed → ℕ
+framePlace (Framed.Whole kind start end) = end
+framePlace (Framed.Refused r) = refusalPlace r
+framePlace Framed.End = 0
+
+abbrev pub frameKind : Framed → ℕ
+frameKind (Framed.Whole kind start end) = kind
+frameKind (Framed.Refused r) = 0
+frameKind Framed.End = 0
 
 -- of a frame of the sheet: 0 and where the next begins, the refusal's number and place, or 255 where nothing is left to load
 abbrev pub loadNumber : Taken → ℕ

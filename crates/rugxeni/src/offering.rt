@@ -18,7 +18,7 @@ ghost use Rattle.state.specs.State.{kept, lengthsOf};
 ghost use mathlib.Core.Path.{_≡_};
 
 // The first sixteen entries; 0 where there are fewer.
-fn cut_of(cut: &[u16]) -> [u16; 16]
+pub(crate) fn cut_of(cut: &[u16]) -> [u16; 16]
     ensures { λ r. ⌜ r ≡ cutWith (now (cut .entry)) ⌝ }
 {
     let mut whole = [0u16; 16];

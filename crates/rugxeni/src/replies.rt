@@ -1,4 +1,6 @@
 // Answers as numbers: one is returned, a place and a value are written.
+use encoding::emit::Written;
+use frames::frame::Framed;
 use offers::answer::Answer;
 use refusals::Checked;
 use refusals::number;
@@ -9,7 +11,7 @@ ghost use mathlib.Core.Path.{_≡_};
 ghost use Rattle.admission.specs.Replies.{replyTo};
 ghost use Rattle.offers.specs.Offering.{replyOf};
 ghost use Rattle.plain.specs.Answer.{isAccepted};
-ghost use Rattle.rugxeni.specs.Numbers.{Said, isTaken, loadNumber, loadPlace, numberOf, placeOf};
+ghost use Rattle.rugxeni.specs.Numbers.{Said, frameKind, frameNumber, framePlace, isTaken, lengthOr, loadNumber, loadPlace, numberOf, placeOf, writtenNumber, writtenPlace};
 
 fn put_told(told: &mut [u64], i: usize, v: u64)
     ensures { λ _. ⌜ now (told .exit) ≡ set (now (told .entry)) i v ⌝ }
@@ -81,5 +83,34 @@ pub fn say_taken(answer: Taken, told: &mut [u64]) -> u16
         Taken::Next(end) => say(0, end, 0, told),
         Taken::Refused(r) => say(number(r) as u16, place(r), 0, told),
         Taken::Complete => say(255, 0, 0, told),
+    }
+}
+
+// Where a text was written its length is told, in the place's stead.
+pub fn say_text(answer: Checked, length: usize, told: &mut [u64]) -> u16
+    ensures { λ r. ⌜ Said (numberOf (replyTo answer)) (lengthOr length (replyTo answer)) 0 r (now (told .entry)) (now (told .exit)) ⌝ }
+{
+    match answer {
+        Checked::Fine => say(0, length, 0, told),
+        Checked::Refused(r) => say(number(r) as u16, place(r), 0, told),
+    }
+}
+
+pub fn say_written(answer: Written, told: &mut [u64]) -> u16
+    ensures { λ r. ⌜ Said (writtenNumber answer) (writtenPlace answer) 0 r (now (told .entry)) (now (told .exit)) ⌝ }
+{
+    match answer {
+        Written::Bytes(n) => say(0, n, 0, told),
+        Written::Refused(r) => say(number(r) as u16, place(r), 0, told),
+    }
+}
+
+pub fn say_frame(framed: Framed, told: &mut [u64]) -> u16
+    ensures { λ r. ⌜ Said (frameNumber framed) (framePlace framed) (frameKind framed) r (now (told .entry)) (now (told .exit)) ⌝ }
+{
+    match framed {
+        Framed::Whole { kind, end, .. } => say(0, end, kind as u32, told),
+        Framed::Refused(r) => say(number(r) as u16, place(r), 0, told),
+        Framed::End => say(255, 0, 0, told),
     }
 }
