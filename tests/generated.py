@@ -1,4 +1,5 @@
 """Tables of the documents that a script writes: printed, written into their file, or compared with it."""
+import difflib
 import os
 import sys
 
@@ -16,9 +17,7 @@ def put(path, text, word):
     kept = open(path, encoding="utf-8").read() if os.path.exists(path) else ""
     if kept == text:
         return 0
-    old, new = set(kept.splitlines()), set(text.splitlines())
-    for sign, lines in (("-", old - new), ("+", new - old)):
-        for line in sorted(lines):
-            print(f"{sign} {line}", file=sys.stderr)
+    for line in difflib.unified_diff(kept.splitlines(), text.splitlines(), path, "what the script writes", n=0, lineterm=""):
+        print(line, file=sys.stderr)
     print(f"{path} is not what the script writes: write it anew with --write", file=sys.stderr)
     return 1

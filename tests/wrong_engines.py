@@ -40,7 +40,7 @@ RECORDS = [
     ("readings", "Reading", ["Reads"]),
     ("account_records", "Records", ["ReadsBeside", "ReadsRecords"]),
     ("rugxeni", "Numbers", ["Said"]),
-    ("rugxeni", "Boundary", ["LoadCall", "OfferCall", "ReadCall"]),
+    ("rugxeni", "Boundary", ["LoadCall", "OfferCall", "ReadCall", "ReportCall", "WriteCall"]),
     ("replay", "Inner", ["Opens", "PutsBlocks"]),
     ("report", "Reports", ["Spared", "Reports"]),
 ]

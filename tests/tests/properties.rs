@@ -3,6 +3,7 @@
 use std::collections::{BTreeMap, BTreeSet};
 
 use crosscheck::engine::format::slip_at;
+use crosscheck::engine::write::checked::Lists;
 use crosscheck::engine::{
     reading, rules, write, Account, Answer, Draft, Engine, Ledger, Logs, Outcomes, Refusal, Sheet,
     Status,
@@ -278,7 +279,7 @@ fn slips_are_read_as_written() {
                 Draft::Headed(_) => write::checked::starts(&draft, &run.sheet.starts),
                 Draft::Begun(sheet) => {
                     let next = &run.sheet.transactions[sheet.transactions.len()];
-                    write::checked::transaction(&draft, next)
+                    write::checked::transaction(&draft, &Lists::of(next))
                 }
             };
             let next = draft.take(&bytes, offset).expect("a sound slip");
@@ -287,7 +288,8 @@ fn slips_are_read_as_written() {
         }
         assert_eq!(draft.complete(), Some(&run.sheet));
         for block in &run.offers {
-            let written = write::checked::block(&draft, block).expect("a sound block");
+            let count = block.citations.len() as u16;
+            let written = write::checked::block(&draft, block, count).expect("a sound block");
             assert!(bytes[offset..].starts_with(&written));
             offset += written.len();
         }

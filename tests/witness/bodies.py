@@ -1,7 +1,7 @@
 """Each wrong body, seen to be wrong: run, it gives something else than its contract says.
 
 A room is a repository with the sources of every crate. A changed body of a crate NAME is run in it, unproved (`rt try`: the interpreter, then compiled
-three ways), by programs/NAME.txt: expectations, each of which follows from the contracts of NAME's functions. Those of `stored_runs` are run by that
+three ways), by programs/NAME.txt, and by NAME.MORE.txt where there are some: expectations, each of which follows from the contracts of NAME's functions. Those of `stored_runs` are run by that
 program itself, on a group of its stored runs and on wrong readings.
 
 With the proved bodies each program ends as it should. Every function but the changed one is the proved one, and what a program looks at is fixed by
@@ -24,6 +24,16 @@ STORED = "stored_runs"
 RIGHT, WRONG = "edges", "generated"
 FAILED = re.compile(r"^FAIL: (.*)\n((?:(?!ok: |FAIL: |skipped: ).*\n)*)", re.M)
 STOPPED = re.compile(r"did not end within the time limit|running steps=")
+
+
+def programs():
+    """The files of expectations: pairs of the crate that they are about and the program's name."""
+    names = [os.path.basename(path)[:-4] for path in sorted(glob.glob(f"{HERE}/programs/*.txt"))]
+    return [(name.split(".")[0], name) for name in names]
+
+
+def program_of(name):
+    return "witness_" + name.replace(".", "_")
 
 
 def wrong_entries(data):
@@ -59,17 +69,20 @@ def make_room(room, below):
     add_stored_runs(room)
     add_text(room, LIBRARY, f"{HERE}/{LIBRARY}.txt", "lib")
     lines = [f"{LIBRARY}:"] + [f"{name}: {' '.join(rest)}" for name, rest in below.items()]
-    for path in sorted(glob.glob(f"{HERE}/programs/*.txt")):
-        crate = os.path.basename(path)[:-4]
-        add_text(room, f"witness_{crate}", path, "main")
-        lines.append(f"witness_{crate}: {LIBRARY} {' '.join(below[crate])} {crate}")
+    for crate, name in programs():
+        add_text(room, program_of(name), f"{HERE}/programs/{name}.txt", "main")
+        lines.append(f"{program_of(name)}: {LIBRARY} {' '.join(below[crate])} {crate}")
     with open(f"{room}/crates.txt", "w", encoding="utf-8") as out:
         out.write("\n".join(lines) + "\n")
 
 
 def difference(room, crate):
-    """What a crate's program does otherwise than it should; empty where it does as it should."""
-    program = STORED if crate == STORED else f"witness_{crate}"
+    """What a crate's programs do otherwise than they should; empty where they do as they should."""
+    run = [STORED] if crate == STORED else [program_of(name) for about, name in programs() if about == crate]
+    return next(filter(None, (difference_of(room, program) for program in run)), "")
+
+
+def difference_of(room, program):
     done = subprocess.run(["rt", "try", program], cwd=room, stdin=subprocess.DEVNULL, capture_output=True, text=True)
     if done.returncode == 0:
         return ""

@@ -1,103 +1,89 @@
 //! A ledger with the buffers that it lends.
 
 use crate::ffi::{self, Kept, Working};
-use crate::values::{Account, Block, Loading, Offer, Refusal, Settlement, Sizes};
+use crate::framing::{frame, NOTHING_LEFT};
+use crate::refusal::{checked, Refusal};
+use crate::values::{Account, Answer, Block, Loading, Offer, Settlement, Sizes};
 
-/// The number by which the boundary says that nothing is left, to load or to offer.
-const NOTHING_LEFT: u16 = 255;
+/// Where the heights begin among a ledger's numbers.
+const HEIGHTS: usize = 6;
 
 /// A ledger: a sheet, and the blocks accepted of each instance.
 ///
 /// A clone is a ledger of its own; what happens to the one leaves the other as it was.
-#[derive(Clone, Debug)]
+#[derive(Clone, Debug, Default)]
 pub struct Ledger {
     /// The library's own 22 numbers: m, a, g, t, the stage of loading, the transactions taken, then sixteen heights.
-    numbers: [u16; 22],
-    kept: Kept,
-    working: Working,
-}
-
-impl Default for Ledger {
-    fn default() -> Ledger {
-        Ledger::new()
-    }
+    pub(crate) numbers: [u16; 22],
+    pub(crate) kept: Kept,
+    pub(crate) working: Working,
 }
 
 impl Ledger {
-    /// A ledger with no sheet yet: its head is due.
+    /// A ledger with no sheet yet: its header is due.
     pub fn new() -> Ledger {
-        Ledger {
-            numbers: [0; 22],
-            kept: Kept::default(),
-            working: Working::default(),
-        }
+        Ledger::default()
     }
 
     /// Loads the sheet with which a run begins. Returns the ledger, and the offset at which the blocks begin.
     ///
-    /// Refusals: 1 to 7, with the offset of the slip.
+    /// Refusals: 1 to 7, with the offset of the frame.
     pub fn load(run: &[u8]) -> Result<(Ledger, usize), Refusal> {
         let mut ledger = Ledger::new();
-        let mut at = 0;
-        while let Loading::Next(end) = ledger.load_slip(run, at)? {
-            at = end;
-        }
+        let at = ledger.load_anew(run)?;
         Ok((ledger, at))
     }
 
-    /// Loads the slip of the sheet at an offset: head, starts, or the next transaction. Refused, nothing changes.
+    /// Loads a run's sheet in the place of all that was there; the buffers are lent once more.
+    pub(crate) fn load_anew(&mut self, run: &[u8]) -> Result<usize, Refusal> {
+        self.numbers = [0; 22];
+        let mut at = 0;
+        while let Loading::Next(end) = self.load_frame(run, at)? {
+            at = end;
+        }
+        Ok(at)
+    }
+
+    /// Loads the frame of the sheet at an offset: header, balances, or the next transaction. Refused, nothing changes.
     ///
     /// Refusals: 1 to 7, with the offset. On a complete sheet the answer is [`Loading::Complete`], whatever the bytes.
-    pub fn load_slip(&mut self, run: &[u8], at: usize) -> Result<Loading, Refusal> {
+    pub fn load_frame(&mut self, run: &[u8], at: usize) -> Result<Loading, Refusal> {
+        let is_begun = self.sizes().is_some();
         let mut told = [0; 2];
-        let code = ffi::load(
-            &mut self.numbers,
-            run,
-            at,
-            &mut self.kept.sheet,
-            &mut told[..],
-        );
+        let code = ffi::load(&mut self.numbers, run, at, &mut self.kept.sheet, &mut told);
         if code == NOTHING_LEFT {
             return Ok(Loading::Complete);
         }
-        let end = checked(code, told)?[0];
-        self.lend();
+        let [end, _] = checked(code, told)?;
+        if !is_begun {
+            let sizes = self.header().in_order();
+            self.kept.lend(sizes);
+            self.working.lend(sizes);
+        }
         Ok(Loading::Next(end as usize))
     }
 
-    /// Makes the buffers as long as the head asks (`docs/BUFFERS.md`). Once they are, this does nothing.
-    fn lend(&mut self) {
-        let [m, a, _, t] = self.head().map(usize::from);
-        self.kept.sheet.resize(8 * a + 100 * t, 0);
-        self.kept.ranks.resize(128 * m, 0);
-        self.kept.cuts.resize(2048 * m, 0);
-        self.kept.cites.resize(4096 * m, 0);
-        self.kept.good.resize(4096 * m, 0);
-        self.working.counts.resize(2 * t, 0);
-        self.working.table.resize(t, 0);
-        self.working.order.resize(128 * m, 0);
-    }
-
-    /// m, a, g and t; all 0 before the head is loaded.
-    fn head(&self) -> [u16; 4] {
-        let [m, a, g, t, ..] = self.numbers;
-        [m, a, g, t]
-    }
-
-    /// The sizes of the sheet, once its head is loaded.
-    pub fn sizes(&self) -> Option<Sizes> {
-        let [instances, accounts, registers, transactions] = self.head();
-        (instances > 0).then_some(Sizes {
+    /// The sizes, all 0 before the header is loaded.
+    pub(crate) fn header(&self) -> Sizes {
+        let [instances, accounts, registers, transactions, ..] = self.numbers;
+        Sizes {
             instances,
             accounts,
             registers,
             transactions,
-        })
+        }
+    }
+
+    /// The sizes of the sheet, once its header is loaded.
+    pub fn sizes(&self) -> Option<Sizes> {
+        let sizes = self.header();
+        (sizes.instances > 0).then_some(sizes)
     }
 
     /// How many blocks of each instance are accepted.
     pub fn heights(&self) -> &[u16] {
-        &self.numbers[6..6 + usize::from(self.numbers[0]).min(16)]
+        let heights = &self.numbers[HEIGHTS..];
+        &heights[..heights.len().min(self.numbers[0].into())]
     }
 
     /// The bytes of all buffers that this ledger lends to the library.
@@ -105,11 +91,39 @@ impl Ledger {
         self.kept.bytes() + self.working.bytes()
     }
 
-    /// Offers the block slip at an offset of some bytes. Only an accepted offer changes the ledger.
+    /// Reads on in a run whose sheet this ledger has: offers the block at an offset. Gives its answer and the offset of the
+    /// next one; `None` where no byte is left.
+    ///
+    /// Refusals: 1 to 7, with the offset. A run's reading ends there.
+    pub fn read_block(
+        &mut self,
+        run: &[u8],
+        at: usize,
+    ) -> Result<Option<(Answer, usize)>, Refusal> {
+        let before = self.numbers;
+        let answer = match self.offer_frame(run, at) {
+            Offer::NoByte => return Ok(None),
+            Offer::Refused(refusal) if refusal.ends_reading() => return Err(refusal),
+            Offer::Refused(refusal) => Answer::Refused(refusal),
+            Offer::Accepted => self.accepted_since(before),
+        };
+        Ok(frame(run, at)?.map(|frame| (answer, frame.end)))
+    }
+
+    /// The block that was accepted last: it raised its instance's height, and its sequence number is the new one.
+    fn accepted_since(&self, before: [u16; 22]) -> Answer {
+        let mut heights = (0..).zip(self.heights()).zip(&before[HEIGHTS..]);
+        let risen = heights.find(|((_, height), before)| height != before);
+        let (instance, sequence) =
+            risen.map_or((0, 0), |((instance, height), _)| (instance, *height));
+        Answer::Accepted { instance, sequence }
+    }
+
+    /// Offers the block's frame at an offset of some bytes. Only an accepted offer changes the ledger.
     ///
     /// Refusals: 1 to 5, with the offset; 8 to 15 and 17. For a ledger refusals 1 to 7 end nothing: a later offer is judged
-    /// as any other. Whoever reads a run ends there.
-    pub fn offer_slip(&mut self, bytes: &[u8], at: usize) -> Offer {
+    /// as any other. Whoever reads a run ends there, as [`Ledger::read_block`] does.
+    pub fn offer_frame(&mut self, bytes: &[u8], at: usize) -> Offer {
         let mut told = [0; 2];
         let code = ffi::offer_frame(
             &mut self.numbers,
@@ -143,7 +157,7 @@ impl Ledger {
     ///
     /// Readings leave the ledger as it is; they are `&mut` because the library works in lent buffers.
     pub fn accounts(&mut self) -> Result<Vec<Account>, Refusal> {
-        let [_, a, _, _] = self.head().map(usize::from);
+        let a = self.header().accounts.into();
         let (mut free, mut held) = (vec![0; a], vec![0; a]);
         let mut told = [0; 2];
         let code = ffi::accounts(
@@ -161,7 +175,7 @@ impl Ledger {
 
     /// The registers, from register 0 up. Refusal: 3 with place 0 before the sheet is complete.
     pub fn registers(&mut self) -> Result<Vec<u32>, Refusal> {
-        let [_, _, g, _] = self.head().map(usize::from);
+        let g = self.header().registers.into();
         let mut values = vec![0; g];
         let mut told = [0; 2];
         let code = ffi::registers(
@@ -177,7 +191,7 @@ impl Ledger {
 
     /// What became of every transaction, from transaction 0 up. Refusal: 3 with place 0 before the sheet is complete.
     pub fn settlements(&mut self) -> Result<Vec<Settlement>, Refusal> {
-        let [_, _, _, t] = self.head().map(usize::from);
+        let t = self.header().transactions.into();
         let mut statuses = vec![0; t];
         let mut told = [0; 2];
         let code = ffi::settlements(
@@ -220,17 +234,6 @@ impl Ledger {
         let [_, length] = checked(code, told)?;
         let log = instances.into_iter().zip(sequences);
         Ok(log.take(length as usize).collect())
-    }
-}
-
-/// What was told, or the refusal of that number.
-fn checked(code: u16, told: [u64; 2]) -> Result<[u64; 2], Refusal> {
-    match code {
-        0 => Ok(told),
-        number => Err(Refusal {
-            number,
-            place: told[0],
-        }),
     }
 }
 

@@ -1,9 +1,9 @@
 //! What goes in and what comes out, as values.
 
-use std::error::Error;
+use crate::Refusal;
 use std::fmt;
 
-/// The sizes in the head of a sheet.
+/// The sizes in the header of a sheet.
 #[derive(Clone, Copy, Debug, PartialEq, Eq)]
 pub struct Sizes {
     /// m, 1 to 16.
@@ -14,6 +14,63 @@ pub struct Sizes {
     pub registers: u16,
     /// t, at most 1,024.
     pub transactions: u16,
+}
+
+/// A transaction of the sheet.
+#[derive(Clone, Debug, PartialEq, Eq)]
+pub struct Transaction {
+    /// A contract alone has operations.
+    pub kind: Kind,
+    /// What it takes, 1 to 4 entries.
+    pub debits: Vec<Entry>,
+    /// What it gives, 1 to 4 entries; as much as it takes.
+    pub credits: Vec<Entry>,
+    /// At most 8.
+    pub operations: Vec<Operation>,
+}
+
+/// What sort of transaction it is; the number is the boundary's.
+#[derive(Clone, Copy, Debug, PartialEq, Eq)]
+pub enum Kind {
+    /// Paid once all its parts are booked and good.
+    Payment = 0,
+    /// Runs its operations once the blocks of all its parts are in the global log.
+    Contract = 1,
+}
+
+/// A debit or a credit.
+#[derive(Clone, Copy, Debug, PartialEq, Eq)]
+pub struct Entry {
+    /// The account, counted from 0.
+    pub account: u16,
+    /// At least 1.
+    pub amount: u32,
+}
+
+/// What a contract does with a register.
+#[derive(Clone, Copy, Debug, PartialEq, Eq)]
+pub struct Operation {
+    /// What is done.
+    pub code: Code,
+    /// The register, counted from 0.
+    pub register: u8,
+    /// What the register is compared with, set to or changed by.
+    pub value: u32,
+}
+
+/// What an operation does; the number is the boundary's. Where it cannot, the contract is returned.
+#[derive(Clone, Copy, Debug, PartialEq, Eq)]
+pub enum Code {
+    /// The register is the value.
+    Equal = 0,
+    /// The register is the value or more.
+    AtLeast = 1,
+    /// It becomes the value.
+    Set = 2,
+    /// The value is added, up to 2^32 − 1.
+    Add = 3,
+    /// The value is subtracted, down to 0.
+    Subtract = 4,
 }
 
 /// A block's values.
@@ -31,10 +88,10 @@ pub struct Block {
     pub citations: Vec<u16>,
 }
 
-/// What became of a slip of the sheet.
+/// What became of a frame of the sheet.
 #[derive(Clone, Copy, Debug, PartialEq, Eq)]
 pub enum Loading {
-    /// It was taken; the next slip begins at this offset.
+    /// It was taken; the next frame begins at this offset.
     Next(usize),
     /// The sheet is complete already, nothing is left to load.
     Complete,
@@ -51,6 +108,20 @@ pub enum Offer {
     NoByte,
 }
 
+/// The answer to a block of a run. As text it is the line that `readrun` prints, without its end.
+#[derive(Clone, Copy, Debug, PartialEq, Eq)]
+pub enum Answer {
+    /// The block stands at the end of its instance's log.
+    Accepted {
+        /// Its instance.
+        instance: u16,
+        /// Its number there.
+        sequence: u16,
+    },
+    /// Nothing changed. The number is 8 or more.
+    Refused(Refusal),
+}
+
 /// The amounts of an account.
 #[derive(Clone, Copy, Debug, Default, PartialEq, Eq)]
 pub struct Account {
@@ -60,7 +131,7 @@ pub struct Account {
     pub held: u64,
 }
 
-/// What became of a transaction.
+/// What became of a transaction. As text it is the word that `readrun` prints.
 #[derive(Clone, Copy, Debug, PartialEq, Eq)]
 pub enum Settlement {
     /// Not decided by the blocks so far.
@@ -71,71 +142,33 @@ pub enum Settlement {
     Returned,
 }
 
-/// Why a call was turned away: a number of document 01's table, and a place.
-///
-/// | Number | Given when | Place |
-/// |---|---|---|
-/// | 1 | the bytes end before the slip does, or before the sheet is complete | the slip's offset |
-/// | 2 | a slip's length is not 2 to 8,194 | the slip's offset |
-/// | 3 | the kind is unknown or not due; a reading or a block's values come before the sheet is complete | the slip's offset, else 0 |
-/// | 4 | the body has another length than its kind and counts say | the slip's offset |
-/// | 5 | a field of the sheet is out of range; a block has more than 32 citations; in values, an unused cut entry is not 0 | the slip's offset, 0 for values |
-/// | 6 | an account stands twice in the debits, or twice in the credits | the slip's offset |
-/// | 7 | debits and credits differ in sum | the slip's offset |
-/// | 8 | the instance is not on the sheet | 0 |
-/// | 9 | the sequence number is not the one due | the number due |
-/// | 10 | the rank is 0 or not above the instance's last | that last rank, 0 if none |
-/// | 11 | the cut's own entry is not the sequence number − 1, or an entry is below that of the instance's block before | the entry |
-/// | 12 | a cut entry exceeds the blocks accepted of its instance | the entry |
-/// | 13 | a citation's transaction is not on the sheet | its place in the list |
-/// | 14 | it has no part in this instance | its place in the list |
-/// | 15 | this instance has cited it already | its place in the list |
-/// | 16 | a lent buffer is too short (not with a [`Ledger`](crate::Ledger)) | the least length |
-/// | 17 | the instance has 128 blocks | 0 |
-#[derive(Clone, Copy, Debug, PartialEq, Eq)]
-pub struct Refusal {
-    /// The number in the table.
-    pub number: u16,
-    /// An offset, an entry, a list place or a count, as the table says.
-    pub place: u64,
-}
-
-impl fmt::Display for Refusal {
-    fn fmt(&self, out: &mut fmt::Formatter<'_>) -> fmt::Result {
-        let reason = match self.number {
-            1 => "the bytes end too early",
-            2 => "length of a slip out of range",
-            3 => "kind unknown or not due",
-            4 => "body of the wrong length",
-            5 => "field out of range",
-            6 => "account named twice",
-            7 => "debits and credits differ",
-            8 => "no such instance",
-            9 => "sequence number not the one due",
-            10 => "rank not above the last",
-            11 => "cut entry falls, or own entry wrong",
-            12 => "cut entry not covered",
-            13 => "no such transaction",
-            14 => "no part in this instance",
-            15 => "cited already",
-            16 => "buffer too short",
-            17 => "instance is full",
-            _ => "not in the table",
-        };
-        write!(
-            out,
-            "refusal {}, place {}: {reason}",
-            self.number, self.place
-        )
+impl Sizes {
+    /// In the header's order: m, a, g, t.
+    pub(crate) fn in_order(self) -> [u16; 4] {
+        [
+            self.instances,
+            self.accounts,
+            self.registers,
+            self.transactions,
+        ]
     }
 }
 
-impl Error for Refusal {}
+impl fmt::Display for Answer {
+    fn fmt(&self, out: &mut fmt::Formatter<'_>) -> fmt::Result {
+        match self {
+            Answer::Accepted { instance, sequence } => write!(out, "ok {instance} {sequence}"),
+            Answer::Refused(Refusal { number, place }) => write!(out, "refused {number} {place}"),
+        }
+    }
+}
 
-/// Where the slip at an offset ends, by its length field; `None` where the bytes end before. Plain Rust, not proved: it
-/// only finds the next offset to offer.
-pub fn slip_end(bytes: &[u8], at: usize) -> Option<usize> {
-    let (length, rest) = bytes.get(at..)?.split_first_chunk::<4>()?;
-    let length = usize::try_from(u32::from_le_bytes(*length)).ok()?;
-    (length <= rest.len()).then(|| at + 4 + length)
+impl fmt::Display for Settlement {
+    fn fmt(&self, out: &mut fmt::Formatter<'_>) -> fmt::Result {
+        out.write_str(match self {
+            Settlement::Open => "open",
+            Settlement::Paid => "paid",
+            Settlement::Returned => "returned",
+        })
+    }
 }

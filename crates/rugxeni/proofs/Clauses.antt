@@ -4,14 +4,19 @@ use Prim.Native.Nat.{_<_, _≤_, ℕ}
 use lib.ListN.{length}
 use mathlib.Core.List.{List, [], _∷_}
 use mathlib.Core.Path.{_≡_}
+use Rattle.encoding.specs.Writing.{Wrote}
+use Rattle.encoding.specs.declared.emit.Written.{Written}
+use Rattle.frames.specs.declared.step.Loading.{Loading}
 use Rattle.offers.specs.Offering.{Offers, replyOf}
 use Rattle.offers.specs.declared.answer.Offered.{Offered}
 use Rattle.plain.specs.Answer.{Answer, isAccepted}
 use Rattle.plain.specs.Offers.{Offer}
 use Rattle.plain.specs.Report.{Query}
 use Rattle.readings.specs.Reading.{Reads}
-use Rattle.rugxeni.specs.Boundary.{LoadCall, OfferCall, ReadCall}
-use Rattle.rugxeni.specs.Numbers.{Said, isTaken, ledgerIn, loadNumber, loadPlace, numberOf, numbersOf, placeOf, size}
+use Rattle.refusals.specs.declared.Checked.{Checked}
+use Rattle.report.specs.Reports.{Reports}
+use Rattle.rugxeni.specs.Boundary.{LoadCall, OfferCall, ReadCall, ReportCall, WriteCall}
+use Rattle.rugxeni.specs.Numbers.{Said, isTaken, ledgerIn, lengthOr, loadNumber, loadPlace, numberOf, numbersOf, placeOf, size, writtenNumber, writtenPlace}
 use Rattle.settlement.specs.Tables.{Buffers}
 use Rattle.state.specs.Loading.{LoadsSheet}
 use Rattle.state.specs.State.{Kept}
@@ -56,3 +61,17 @@ module _ {numbers : List ℕ} {K : Kept} {W : Buffers} {q : Query} {outs : List 
   pub read-calls : size ≤ length numbers → (a : Answer) × (n : ℕ) × Reads (ledgerIn numbers) K W q outs a n W' outs'
       × Said (numberOf a) (placeOf a) n code told told'
   read-calls = p .reads
+
+module _ {run : List ℕ} {K : Kept} {W : Buffers} {out told : List ℕ}
+    {code : ℕ} {K' : Kept} {W' : Buffers} {out' told' : List ℕ} (p : ReportCall run K W out told code K' W' out' told') where
+  pub report-calls : (a : Answer) × (n : ℕ) × Reports run K W out a n K' W' out' × Said (numberOf a) (lengthOr n a) 0 code told told'
+  report-calls = p .reports
+
+module _ {numbers : List ℕ} {checked : Loading → Checked} {frame : Loading → List ℕ} {out told : List ℕ}
+    {code : ℕ} {out' told' : List ℕ} (p : WriteCall numbers checked frame out told code out' told') where
+  pub write-short : length numbers < size → Said 16 size 0 code told told' × (out' ≡ out)
+  write-short = p .short
+
+  pub write-calls : size ≤ length numbers → (w : Written) × Wrote (checked (ledgerIn numbers .loading)) (frame (ledgerIn numbers .loading)) out out' w
+      × Said (writtenNumber w) (writtenPlace w) 0 code told told'
+  write-calls = p .writes

@@ -21,7 +21,7 @@ use Rattle.refusals.specs.declared.Refusal.the-variants.{AccountTwice, BadLengt
 use Rattle.rugxeni.proofs.Carried.{front-ledger, fresh-numbers, load-carried, offer-carried}
 use Rattle.rugxeni.specs.Boundary.{OfferCall, ReadCall}
 use Rattle.rugxeni.specs.Numbers.{ledgerIn, numberOf, placeOf, size}
-use Rattle.rugxeni.specs.OverBoundary.{BoundaryCalls, BoundaryOpening, BoundaryUse, OverBoundary, anew, answerBy, answered, begin, early, few, few-load, few-read, load, loading, moved, offer, reading, short, reads, stop, taken}
+use Rattle.rugxeni.specs.OverBoundary.{BoundaryCalls, BoundaryOpening, BoundaryUse, OverBoundary, anew, answerBy, answered, begin, beside, early, few, few-load, few-read, load, loading, moved, offer, reading, reported, short, reads, stop, taken}
 use Rattle.settlement.specs.Tables.{Buffers}
 use Rattle.sheets.specs.Sheet.{Sheet}
 use Rattle.state.specs.State.{Kept, kept}
@@ -44,6 +44,10 @@ opening-over (early {n} {cells} {told} {n'} {told'} {code} {S} {K} {K'} {W} {W'}
     let (h, p) = opening-over b in
     let (k, e) = offer-carried n K W o told code n' K' W' told' h c in
     (k, subst (λ (l : Ledger). Opening l cells S) (sym e) (chain.early p u (c .offers h .1)))
+opening-over (beside o a) = opening-over o
+opening-over (reported {n} {run} {out} {out'} {told} {told'} {code} {K} {K'} {W} {W'} {S} o c e) =
+    let (h, p) = opening-over o in
+    (h, subst (λ (k : Kept). Opening (ledgerIn n) (k .sheet) S) (sym (c .reports .2 .quiet e .1)) p)
 opening-over (moved {n} {n'} {cells} {cells'} {S} o k e f) =
     (k, subst (λ (l : Ledger). Opening l cells' S) (sym (front-ledger n n' e)) (chain.moved (opening-over o .1) f))
 
@@ -69,6 +73,10 @@ calls-over (few-load {n} {n'} {n''} {run} {told} {other} {other'} {told'} {at} {
     let (k, q) = load-carried n run at other told code n' other' told' u c in
     let (v, D) = calls-over d k in
     (v, chain.few-load {r = c .loads u .0} (c .loads u .1) (subst (λ (l : Ledger). Calls l K es (ledgerIn n'') K') q D))
+calls-over (beside a d) u = calls-over d u
+calls-over (reported {n} {n'} {run} {out} {out'} {told} {told'} {code} {K} {K'} {K''} {es} {W} {W'} c e d) u =
+    let (v, D) = calls-over d u in
+    (v, subst (λ (k : Kept). Calls (ledgerIn n) k es (ledgerIn n') K'') (c .reports .2 .quiet e .1) D)
 calls-over (anew {n} {n'} {n''} {K} {J} {K'} {es} k e s d) u =
     let (v, D) = calls-over d k in
     (v, chain.anew s (subst (λ (l : Ledger). Calls l J es (ledgerIn n'') K') (front-ledger n n' e) D))

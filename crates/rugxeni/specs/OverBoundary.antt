@@ -10,7 +10,8 @@ use mathlib.Core.Path.{_≡_}
 use Rattle.demand.specs.Chain.{Event, InUse, SameFront, SameLedger, asked, noSheet, offered, sheetAfter}
 use Rattle.demand.specs.Claim.{Agree, Read, logsOf}
 use Rattle.demand.specs.Exists.{Lends, eventsFrom}
-use Rattle.frames.specs.Frame.{bodyAt}
+use Rattle.frames.specs.Frame.{bodyAt, frameAt}
+use Rattle.frames.specs.declared.step.Loading.{Loading}
 use Rattle.frames_load.specs.Load.{room}
 use Rattle.offers.specs.Offering.{replyOf}
 use Rattle.plain.specs.Answer.{Answer, accepted, isAccepted, noOffer, refused}
@@ -19,8 +20,9 @@ use Rattle.plain.specs.Offers.{Offer, lentOf, offerNeeds}
 use Rattle.plain.specs.Plain.{lentAnswer}
 use Rattle.plain.specs.Report.{Query, workNeeds}
 use Rattle.readings.specs.Reading.{lentTo, workLengths}
-use Rattle.rugxeni.specs.Boundary.{LoadCall, OfferCall, ReadCall}
-use Rattle.rugxeni.specs.Numbers.{ledgerIn, size}
+use Rattle.refusals.specs.declared.Checked.{Checked}
+use Rattle.rugxeni.specs.Boundary.{LoadCall, OfferCall, ReadCall, ReportCall, WriteCall}
+use Rattle.rugxeni.specs.Numbers.{Said, frameKind, frameNumber, framePlace, ledgerIn, size}
 use Rattle.settlement.specs.Tables.{Buffers}
 use Rattle.sheets.specs.Sheet.{Sheet}
 use Rattle.state.specs.Lengths.{leastLengths}
@@ -49,6 +51,17 @@ reads {K = K} {W = W} {q = q} {outs = outs} {outs' = outs'} c h =
 
 -- ---- the calls
 
+-- A call that no ledger's numbers or kept buffers are lent to be written: it leaves every ledger as it was
+pub data Apart : List ℕ → Type 0 where
+  -- the writers, to whom the numbers are lent to be read
+  write : {n out out' told told' : List ℕ} {checked : Loading → Checked} {frame : Loading → List ℕ} {code : ℕ}
+      → WriteCall n checked frame out told code out' told' → Apart n
+  -- rugxeni_report, with buffers of its own
+  report : {n run out out' told told' : List ℕ} {J J' : Kept} {W W' : Buffers} {code : ℕ} → ReportCall run J W out told code J' W' out' told' → Apart n
+  -- rugxeni_frame
+  frame : {n told told' : List ℕ} {code : ℕ} (bytes : List ℕ) (at : ℕ)
+      → Said (frameNumber (frameAt bytes at)) (framePlace (frameAt bytes at)) (frameKind (frameAt bytes at)) code told told' → Apart n
+
 -- The 22 numbers (or more), the cells of the sheet, and the sheet that the frames have said so far
 pub data BoundaryOpening : List ℕ → List ℕ → Sheet → Type 0 where
   -- "All zero is a fresh ledger"
@@ -63,6 +76,11 @@ pub data BoundaryOpening : List ℕ → List ℕ → Sheet → Type 0 where
   -- an offer, with any buffers, that comes too early
   early : {n cells told n' told' : List ℕ} {code : ℕ} {S : Sheet} {K K' : Kept} {W W' : Buffers} {o : Offer} → BoundaryOpening n cells S
       → complete (ledgerIn n) ≡ false → OfferCall n K W o told code n' K' W' told' → BoundaryOpening n' cells S
+  -- a writer, a report or a frame's end
+  beside : {n cells : List ℕ} {S : Sheet} → BoundaryOpening n cells S → Apart n → BoundaryOpening n cells S
+  -- rugxeni_report with the cells themselves, among buffers that are too short
+  reported : {n run out out' told told' : List ℕ} {code : ℕ} {K K' : Kept} {W W' : Buffers} {S : Sheet} → BoundaryOpening n (K .sheet) S
+      → (c : ReportCall run K W out told code K' W' out' told') → isAccepted (c .reports .0) ≡ false → BoundaryOpening n (K' .sheet) S
   -- numbers and cells are kept elsewhere from here on
   moved : {n n' cells cells' : List ℕ} {S : Sheet} → BoundaryOpening n cells S → size ≤ length n' → SameFront size n' n
       → (2 ≤ ledgerIn n .loading .stage → SameFront (leastLengths (ledgerIn n) .sheet) cells' cells) → BoundaryOpening n' cells' S
@@ -94,6 +112,11 @@ pub data BoundaryCalls : List ℕ → Kept → List Event → List ℕ → Kept 
   -- the same with any other cells
   few-load : {n n' n'' run told other other' told' : List ℕ} {at code : ℕ} {K K' : Kept} {es : List Event} → LoadCall n run at other told code n' other' told'
       → BoundaryCalls n' K es n'' K' → BoundaryCalls n K es n'' K'
+  -- a writer, a report or a frame's end
+  beside : {n n' : List ℕ} {K K' : Kept} {es : List Event} → Apart n → BoundaryCalls n K es n' K' → BoundaryCalls n K es n' K'
+  -- rugxeni_report with the kept buffers themselves, where one that is lent is too short
+  reported : {n n' run out out' told told' : List ℕ} {code : ℕ} {K K' K'' : Kept} {es : List Event} {W W' : Buffers}
+      (c : ReportCall run K W out told code K' W' out' told') → isAccepted (c .reports .0) ≡ false → BoundaryCalls n K' es n' K'' → BoundaryCalls n K es n' K''
   -- numbers and ledger are kept elsewhere from here on
   anew : {n n' n'' : List ℕ} {K J K' : Kept} {es : List Event} → size ≤ length n' → SameFront size n' n → SameLedger (ledgerIn n) K J
       → BoundaryCalls n' J es n'' K' → BoundaryCalls n K es n'' K'

@@ -23,9 +23,10 @@ pub enum Buffer {
     Statuses,
     Instances,
     Sequences,
+    Out,
 }
 
-pub const BUFFERS: [Buffer; 14] = [
+pub const BUFFERS: [Buffer; 15] = [
     Buffer::Sheet,
     Buffer::Ranks,
     Buffer::Cuts,
@@ -40,6 +41,7 @@ pub const BUFFERS: [Buffer; 14] = [
     Buffer::Statuses,
     Buffer::Instances,
     Buffer::Sequences,
+    Buffer::Out,
 ];
 
 /// A call, with all that is not lent.
@@ -53,6 +55,8 @@ pub enum Call<'a> {
     Settlements,
     Share,
     Log,
+    Frame(&'a [u8], usize),
+    Report(&'a [u8]),
 }
 
 pub const READINGS: [Call<'static>; 5] =
@@ -70,12 +74,14 @@ impl fmt::Debug for Call<'_> {
             Call::Settlements => write!(out, "settlements"),
             Call::Share => write!(out, "share"),
             Call::Log => write!(out, "log"),
+            Call::Frame(bytes, at) => write!(out, "the frame at {at} of {} bytes", bytes.len()),
+            Call::Report(_) => write!(out, "report"),
         }
     }
 }
 
 /// Everything that some call lends: the ledger's 22 numbers, what it keeps,
-/// working space, what readings fill, and the two numbers that are told.
+/// working space, what readings fill, a text, and the two numbers that are told.
 #[derive(Clone, Debug, Default, PartialEq)]
 pub struct Lent {
     pub numbers: [u16; 22],
@@ -87,12 +93,27 @@ pub struct Lent {
     pub statuses: Vec<u8>,
     pub instances: Vec<u16>,
     pub sequences: Vec<u16>,
+    pub out: Vec<u8>,
     pub told: [u64; 2],
 }
+
+/// The number that a call returns, and what it tells.
+pub type Returned = (u16, [u64; 2]);
+
+/// Nothing left, to load, to offer, or to be framed.
+pub const NOTHING_LEFT: u16 = 255;
+pub const TOO_SHORT: u16 = 16;
 
 /// Anything that answers these calls as the static library does.
 pub trait Boundary {
     fn call(&self, call: &Call, lent: &mut Lent) -> u16;
+
+    /// The same, with what it tells. Nothing of it is there before.
+    fn returned(&self, call: &Call, lent: &mut Lent) -> Returned {
+        lent.told = [u64::MAX; 2];
+        let number = self.call(call, lent);
+        (number, lent.told)
+    }
 }
 
 /// The static library.
@@ -121,6 +142,8 @@ impl Boundary for Library {
                 let (instances, sequences) = (&mut lent.instances, &mut lent.sequences);
                 ffi::log(numbers, &kept.ranks, instances, sequences, told)
             }
+            Call::Frame(bytes, at) => ffi::frame(bytes, *at, told),
+            Call::Report(run) => ffi::report(run, kept, working, &mut lent.out, told),
         }
     }
 }
@@ -166,6 +189,7 @@ impl Lent {
             Buffer::Statuses => Places::U8(&mut self.statuses),
             Buffer::Instances => Places::U16(&mut self.instances),
             Buffer::Sequences => Places::U16(&mut self.sequences),
+            Buffer::Out => Places::U8(&mut self.out),
         }
     }
 

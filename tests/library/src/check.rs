@@ -8,8 +8,6 @@
 //! * the accepted blocks in other orders, with refused offers between: the
 //!   readings have to be those of the run ("demand 3", seen from outside).
 
-use std::fmt::{self, Debug, Display};
-
 use crosscheck::engine::format::{self, slip_at};
 use crosscheck::engine::{Block, Draft, Engine, Ledger};
 use crosscheck::generate::damage;
@@ -17,56 +15,13 @@ use crosscheck::generate::random::Random;
 use crosscheck::replay::{self, Offer as Replayed};
 use rugxeni::{Loading, Offer, Refusal, Settlement};
 
+use crate::counts::Counts;
+use crate::difference::{same, Difference};
 use crate::expect;
 use crate::subject::{Readings, Subject};
 
 /// About so many times in a run all readings are compared before its end.
 const READINGS_BETWEEN: u64 = 4;
-
-/// What was compared.
-#[derive(Clone, Copy, Debug, Default, PartialEq, Eq)]
-pub struct Counts {
-    /// Runs, and those of them whose sheet was complete.
-    pub runs: u64,
-    pub complete: u64,
-    /// Slips of sheets.
-    pub sheet_slips: u64,
-    /// Offers, as slips and as values, and those of them that were accepted.
-    pub slips: u64,
-    pub values: u64,
-    pub accepted: u64,
-    /// Times that all five readings were compared.
-    pub readings: u64,
-    /// Runs delivered again in another order.
-    pub replays: u64,
-    /// Calls with a short buffer, and with longer ones than there have to be.
-    pub short: u64,
-    pub lent: u64,
-}
-
-impl Display for Counts {
-    fn fmt(&self, out: &mut fmt::Formatter<'_>) -> fmt::Result {
-        write!(
-            out,
-            "{} runs ({} with a complete sheet, {} sheet slips), {} offers as slips and {} as values \
-             ({} accepted), {} times all readings, {} replays, {} calls with short buffers and {} with \
-             longer ones",
-            self.runs,
-            self.complete,
-            self.sheet_slips,
-            self.slips,
-            self.values,
-            self.accepted,
-            self.readings,
-            self.replays,
-            self.short,
-            self.lent
-        )
-    }
-}
-
-/// What differed, and where.
-pub type Difference = String;
 
 /// Compares subjects, as `fresh` gives them, with the second engine on a run.
 pub fn check<S: Subject>(
@@ -88,18 +43,6 @@ pub fn check<S: Subject>(
     let same_offers = loaded(run, &fresh)?;
     replay(ledger, random, counts, same_offers, Some(Engine::on(ledger.sheet())), &last)?;
     replay(ledger, random, counts, loaded(run, &fresh)?, None, &last)
-}
-
-/// An error that names both sides, unless they are the same.
-pub fn same<T: PartialEq + Debug + ?Sized>(
-    got: &T,
-    expected: &T,
-    what: impl FnOnce() -> String,
-) -> Result<(), Difference> {
-    if got == expected {
-        return Ok(());
-    }
-    Err(format!("{}: the library {got:?}, expected {expected:?}", what()))
 }
 
 fn same_readings(

@@ -4,7 +4,28 @@
 use crosscheck::engine::{write, Block, Head, Ledger, Status};
 
 use crate::boundary::{Buffer, Call, Lent};
-use crate::check::{same, Difference};
+use crate::difference::{same, Difference};
+
+/// What `report` lends: the buffers of an offer, as long as the largest sheet
+/// needs them, and its text.
+const REPORT: [(Buffer, usize); 9] = [
+    (Buffer::Sheet, 110_592),
+    (Buffer::Ranks, 2_048),
+    (Buffer::Cuts, 32_768),
+    (Buffer::Cites, 65_536),
+    (Buffer::Good, 65_536),
+    (Buffer::Counts, 2_048),
+    (Buffer::Table, 1_024),
+    (Buffer::Order, 2_048),
+    (Buffer::Out, 262_144),
+];
+
+/// Buffers that suffice for every sheet, and for a text.
+pub fn largest() -> Lent {
+    let mut lent = Lent::default();
+    REPORT.iter().for_each(|(buffer, least)| lent.lengthen(*buffer, *least, 0));
+    lent
+}
 
 /// What a call lends, in its order, with the least lengths: the tables of
 /// `docs/BUFFERS.md`. All sizes are 0 before the head is known. `log` is the
@@ -23,6 +44,8 @@ pub fn needs(call: &Call, head: &Head, log: usize) -> Vec<(Buffer, usize)> {
         Call::Registers => &[(Values, g)],
         Call::Settlements => &[(Statuses, t)],
         Call::Share => &[],
+        Call::Frame(..) => return Vec::new(),
+        Call::Report(_) => return REPORT.to_vec(),
     };
     [&kept[..2], &kept[3..], &working, filled].concat()
 }

@@ -14,20 +14,15 @@ use crosscheck::engine::format::{self, slip_at};
 use crosscheck::engine::{Answer, Block, Draft, Engine, Head, Refusal};
 use crosscheck::generate::random::Random;
 
-use crate::boundary::{Boundary, Buffer, Call, Lent, BUFFERS, READINGS};
-use crate::check::{same, Counts, Difference};
+use crate::boundary::{Boundary, Buffer, Call, Lent, Returned, NOTHING_LEFT, READINGS};
+use crate::buffers::{self, Length};
+use crate::counts::Counts;
+use crate::difference::{same, Difference};
 use crate::layout::{self, needs};
-
-/// Nothing left, to load or to offer.
-const NOTHING_LEFT: u16 = 255;
-const TOO_SHORT: u16 = 16;
 
 /// About so many times in a sheet, and then among the blocks, every call is
 /// made with short buffers, and every reading with longer ones.
 const MOMENTS: u64 = 2;
-
-/// The number that a call returns, and what it tells.
-type Returned = (u16, [u64; 2]);
 
 /// Compares the calls of a boundary, with buffers of every length, with the
 /// second engine on a run.
@@ -108,7 +103,8 @@ impl<B: Boundary> Walk<'_, B> {
             let expected = answered(expected);
             self.make(&call, &sizes, expected)?;
             if let Some(mut before) = before.filter(|_| expected.0 != 0) {
-                self.same_as(&mut before).map_err(|text| format!("refused, {call:?} {text}"))?;
+                buffers::unchanged(&mut self.lent, &mut before)
+                    .map_err(|text| format!("refused, {call:?} {text}"))?;
             }
             // What follows a slip of no known length cannot be found.
             at = slip.map_or(run.len(), |slip| slip.next);
@@ -126,7 +122,7 @@ impl<B: Boundary> Walk<'_, B> {
 
     /// Lends what the ledger keeps and works in anew: the least lengths or a
     /// little more, working space with anything in it. Gives the least lengths.
-    fn lengthen(&mut self) -> Vec<(Buffer, usize)> {
+    fn lengthen(&mut self) -> Vec<Length> {
         let sizes = needs(&Call::OfferSlip(&[], 0), &self.head(), 0);
         for (buffer, least) in &sizes {
             let more = self.random.pick(&[0, 0, 1, 3]);
@@ -139,29 +135,18 @@ impl<B: Boundary> Walk<'_, B> {
         sizes
     }
 
-    fn call(&mut self, call: &Call) -> Returned {
-        self.lent.told = [u64::MAX; 2];
-        let number = self.boundary.call(call, &mut self.lent);
-        (number, self.lent.told)
-    }
-
     /// Makes a call whose buffers suffice: it returns what is expected and
     /// leaves alone what lies behind the least lengths.
     fn make(
         &mut self,
         call: &Call,
-        sizes: &[(Buffer, usize)],
+        sizes: &[Length],
         expected: Returned,
     ) -> Result<(), Difference> {
         self.counts.lent += 1;
-        let got = self.call(call);
+        let got = self.boundary.returned(call, &mut self.lent);
         same(&got, &expected, || format!("{call:?}"))?;
-        for (buffer, least) in sizes {
-            if !self.lent.is_guarded(*buffer, *least) {
-                return Err(format!("{call:?} wrote behind the least length of {buffer:?}"));
-            }
-        }
-        Ok(())
+        buffers::guarded(call, sizes, &mut self.lent)
     }
 
     /// The given calls and all readings with short buffers, then all readings
@@ -185,36 +170,11 @@ impl<B: Boundary> Walk<'_, B> {
         self.readings(&sizes)
     }
 
-    /// A call with each buffer in turn one place short, and with no place at
-    /// all, and with several short at once.
+    /// A call with short buffers.
     fn short(&mut self, call: &Call, log: usize) -> Result<(), Difference> {
-        let mut before = self.lent.clone();
-        let needs = needs(call, &self.head(), log);
-        let needs: Vec<(Buffer, usize)> = needs.into_iter().filter(|need| need.1 > 0).collect();
-        let mut shortened: Vec<Vec<(Buffer, usize)>> = Vec::new();
-        for (buffer, least) in &needs {
-            shortened.push(vec![(*buffer, 0)]);
-            shortened.push(vec![(*buffer, least - 1)]);
-        }
-        for _ in 0..3 {
-            let mut several = needs.clone();
-            several.retain(|_| self.random.chance(60));
-            several.iter_mut().for_each(|(_, length)| *length = self.random.place(*length));
-            shortened.push(several);
-        }
-        for lengths in shortened.iter().filter(|lengths| !lengths.is_empty()) {
-            self.counts.short += 1;
-            lengths.iter().for_each(|(buffer, length)| self.lent.shorten(*buffer, *length));
-            let first = needs.iter().find(|(buffer, _)| *buffer == lengths[0].0);
-            let least = first.map_or(0, |(_, least)| *least as u64);
-            let expected = self.earlier(call).unwrap_or((TOO_SHORT, [least, 0]));
-            let got = self.call(call);
-            let what = || format!("{call:?} with {lengths:?}");
-            same(&got, &expected, what)?;
-            self.same_as(&mut before).map_err(|text| format!("{} {text}", what()))?;
-            lengths.iter().for_each(|(buffer, _)| self.lent.restore(*buffer, &mut before));
-        }
-        Ok(())
+        let (needs, earlier) = (needs(call, &self.head(), log), self.earlier(call));
+        let Walk { boundary, lent, random, counts, .. } = self;
+        buffers::short(*boundary, call, &needs, earlier, lent, random, counts)
     }
 
     /// What comes before 16.
@@ -228,17 +188,8 @@ impl<B: Boundary> Walk<'_, B> {
         }
     }
 
-    /// Nothing but what is told has changed; buffers may be shorter.
-    fn same_as(&mut self, before: &mut Lent) -> Result<(), Difference> {
-        same(&self.lent.numbers, &before.numbers, || "left the numbers".to_string())?;
-        match BUFFERS.iter().find(|buffer| !self.lent.begins(**buffer, before)) {
-            Some(buffer) => Err(format!("changed {buffer:?}")),
-            None => Ok(()),
-        }
-    }
-
     /// All readings: what they fill, and what they leave alone.
-    fn readings(&mut self, sizes: &[(Buffer, usize)]) -> Result<(), Difference> {
+    fn readings(&mut self, sizes: &[Length]) -> Result<(), Difference> {
         let (numbers, kept) = (self.lent.numbers, self.lent.kept.clone());
         let value = |reading: &Call| match reading {
             Call::Share => self.engine.share().map(u64::from),

@@ -9,16 +9,28 @@
 //! * [`check`] — the comparisons of one run;
 //! * [`boundary`] — the same calls with the buffers that they are lent;
 //! * [`lengths`] — refusal 16, and buffers longer than they have to be;
-//! * [`layout`] — how long the lent buffers have to be, and what they hold.
+//! * [`layout`] — how long the lent buffers have to be, and what they hold;
+//! * [`buffers`] — one call with buffers that are too short;
+//! * [`writers`] — the four writers, call by call;
+//! * [`written`] — runs that were written, read back;
+//! * [`reports`] — the text of a run by one call, and its frames;
+//! * [`counts`], [`difference`] — what was compared, and what differs.
 
 pub mod boundary;
+pub mod buffers;
 pub mod check;
+pub mod counts;
+pub mod difference;
 pub mod expect;
 pub mod layout;
 pub mod lengths;
+pub mod reports;
 pub mod subject;
+pub mod writers;
+pub mod written;
 
-pub use check::{check, Counts};
+pub use check::check;
+pub use counts::Counts;
 pub use subject::Subject;
 
 use crosscheck::generate::{self, random::Random, Size};
@@ -36,4 +48,10 @@ pub fn bytes(seed: u64) -> Vec<u8> {
         return generate::run(&mut random, Size::Largest, noise).bytes();
     }
     generate::bytes(seed)
+}
+
+/// Numbers for a comparison on a seed's run: others than those that it is made
+/// of.
+pub fn numbers(seed: u64) -> Random {
+    Random::new(!seed)
 }

@@ -4,27 +4,25 @@
 use std::process::ExitCode;
 use std::{env, fs};
 
-use crosscheck::generate::random::Random;
-use crosscheck_library::boundary::Library;
-use crosscheck_library::{bytes, check, lengths, Counts};
+use crosscheck_library::boundary::{Lent, Library};
+use crosscheck_library::difference::Difference;
+use crosscheck_library::{
+    bytes, check, layout, lengths, numbers, reports, writers, written, Counts,
+};
 use rugxeni::Ledger;
 
 fn main() -> ExitCode {
     let words: Vec<String> = env::args().skip(1).collect();
-    let numbers: Result<Vec<u64>, _> = words.iter().map(|word| word.parse()).collect();
-    let Ok([count, seed]) = numbers.as_deref() else {
+    let arguments: Result<Vec<u64>, _> = words.iter().map(|word| word.parse()).collect();
+    let Ok([count, seed]) = arguments.as_deref() else {
         eprintln!("usage: crosscheck-library COUNT SEED");
         return ExitCode::from(2);
     };
-    let mut counts = Counts::default();
+    let (mut counts, mut lent) = (Counts::default(), layout::largest());
     for round in 0..*count {
         let seed = seed.wrapping_add(round);
         let run = bytes(seed);
-        // The seed's run is made of the same numbers: these are others.
-        let mut random = Random::new(!seed);
-        let checked = check(&run, &mut random, &mut counts, Ledger::new)
-            .and_then(|()| lengths::check(&run, &mut random, &mut counts, &Library));
-        if let Err(difference) = checked {
+        if let Err(difference) = compare(seed, &run, &mut counts, &mut lent) {
             let file = format!("difference-{seed}.run");
             let kept = match fs::write(&file, &run) {
                 Ok(()) => format!("see {file}"),
@@ -36,4 +34,14 @@ fn main() -> ExitCode {
     }
     println!("{counts}: all agree");
     ExitCode::SUCCESS
+}
+
+/// All comparisons of a seed, each with the same numbers, so that none depends
+/// on how many of them another one takes.
+fn compare(seed: u64, run: &[u8], counts: &mut Counts, lent: &mut Lent) -> Result<(), Difference> {
+    check(run, &mut numbers(seed), counts, Ledger::new)?;
+    lengths::check(run, &mut numbers(seed), counts, &Library)?;
+    writers::check(run, &mut numbers(seed), counts, &Library)?;
+    written::check(&mut numbers(seed), counts, &Library, lent)?;
+    reports::check(run, &mut numbers(seed), counts, &Library, lent)
 }

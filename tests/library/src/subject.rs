@@ -23,11 +23,11 @@ pub trait Subject {
 
 impl Subject for Ledger {
     fn load(&mut self, run: &[u8], at: usize) -> Result<Loading, Refusal> {
-        self.load_slip(run, at)
+        self.load_frame(run, at)
     }
 
     fn offer_slip(&mut self, bytes: &[u8], at: usize) -> Offer {
-        Ledger::offer_slip(self, bytes, at)
+        Ledger::offer_frame(self, bytes, at)
     }
 
     fn offer_values(&mut self, block: &Block) -> Offer {

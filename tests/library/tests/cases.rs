@@ -4,8 +4,9 @@
 use crosscheck::cases;
 use crosscheck::generate::random::Random;
 use crosscheck_library::boundary::Library;
-use crosscheck_library::{check, lengths, Counts};
-use rugxeni::{slip_end, Ledger, Offer, Refusal, Settlement};
+use crosscheck_library::{check, layout, lengths, reports, writers, Counts};
+use rugxeni::ffi;
+use rugxeni::{frame, Ledger, Offer, Refusal, Settlement};
 
 /// A run's text, as `readrun` prints it, taken from the library's calls.
 fn text(run: &[u8]) -> String {
@@ -26,7 +27,7 @@ fn read(run: &[u8], lines: &mut Vec<String>) -> Result<(), Refusal> {
     lines.push(format!("run {m} {a} {g} {t}"));
     loop {
         let heights = ledger.heights().to_vec();
-        match ledger.offer_slip(run, at) {
+        match ledger.offer_frame(run, at) {
             Offer::NoByte => break,
             Offer::Refused(refusal) if refusal.number <= 7 => return Err(refusal),
             Offer::Refused(Refusal { number, place }) => {
@@ -41,7 +42,7 @@ fn read(run: &[u8], lines: &mut Vec<String>) -> Result<(), Refusal> {
                 lines.push(format!("ok {} {}", grown[0], after[grown[0]]));
             }
         }
-        at = slip_end(run, at).expect("a whole slip");
+        at = frame(run, at)?.expect("a whole frame").end;
     }
     for (instance, sequence) in ledger.log()? {
         lines.push(format!("log {instance} {sequence}"));
@@ -68,17 +69,39 @@ fn read(run: &[u8], lines: &mut Vec<String>) -> Result<(), Refusal> {
 fn texts_are_those_of_the_paper() {
     for case in cases::all() {
         assert_eq!(text(&case.run), case.text, "{}", case.name);
+        assert_eq!(rugxeni::text(&case.run), case.text, "{}, by one call", case.name);
     }
 }
 
 #[test]
 fn calls_are_those_of_the_second_engine() {
-    let mut counts = Counts::default();
+    let (mut counts, mut lent) = (Counts::default(), layout::largest());
     for (number, case) in cases::all().iter().enumerate() {
         let mut random = Random::new(number as u64);
         let checked = check(&case.run, &mut random, &mut counts, Ledger::new);
         assert_eq!(checked, Ok(()), "{}", case.name);
         let checked = lengths::check(&case.run, &mut random, &mut counts, &Library);
         assert_eq!(checked, Ok(()), "{}, with buffers of other lengths", case.name);
+        let checked = writers::check(&case.run, &mut random, &mut counts, &Library);
+        assert_eq!(checked, Ok(()), "{}, writing on its sheet", case.name);
+        let checked = reports::check(&case.run, &mut random, &mut counts, &Library, &mut lent);
+        assert_eq!(checked, Ok(()), "{}, its text", case.name);
+    }
+}
+
+/// Two numbers are told, as far as there are places for them, and no third.
+#[test]
+fn as_much_is_told_as_there_is_space_for() {
+    let case = &cases::all()[0];
+    let mut lent = layout::largest();
+    for places in 0..4 {
+        let mut told = vec![u64::MAX; places];
+        assert_eq!(ffi::frame(&case.run, 0, &mut told), 0);
+        assert_eq!(told, [14, 1, u64::MAX][..places], "the head of {}", case.name);
+        told.fill(u64::MAX);
+        let (kept, working) = (&mut lent.kept, &mut lent.working);
+        assert_eq!(ffi::report(&case.run, kept, working, &mut lent.out, &mut told), 0);
+        let length = case.text.len() as u64;
+        assert_eq!(told, [length, 0, u64::MAX][..places], "the text of {}", case.name);
     }
 }

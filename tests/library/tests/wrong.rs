@@ -6,9 +6,8 @@ mod last;
 
 use crosscheck::engine::format::{self, slip_at};
 use crosscheck::engine::Block;
-use crosscheck::generate::random::Random;
 use crosscheck_library::subject::Readings;
-use crosscheck_library::{bytes, check, Counts, Subject};
+use crosscheck_library::{bytes, check, numbers, Counts, Subject};
 use last::Last;
 use rugxeni::{Account, Ledger, Loading, Offer, Refusal};
 
@@ -137,13 +136,13 @@ impl Wrong {
 
 impl Subject for Wrong {
     fn load(&mut self, run: &[u8], at: usize) -> Result<Loading, Refusal> {
-        let answer = self.judge.load_slip(run, at);
+        let answer = self.judge.load_frame(run, at);
         if let Ok(Loading::Next(next)) = answer {
             let slip = match self.fault {
                 Fault::AtTheLast(fault) => self.sheet.slip(fault, &run[at..next]),
                 _ => run[at..next].to_vec(),
             };
-            let booked = self.books.load_slip(&slip, 0);
+            let booked = self.books.load_frame(&slip, 0);
             assert_eq!(booked, Ok(Loading::Next(slip.len())), "a fault is not to be turned away");
         }
         match (self.fault, answer) {
@@ -159,10 +158,10 @@ impl Subject for Wrong {
             let m = self.judge.sizes().map_or(0, |sizes| sizes.instances);
             let slip = slip_at(bytes, at).ok().filter(|slip| slip.kind == 4);
             let block = slip.and_then(|slip| format::block(slip.body, m));
-            let answer = self.judge.offer_slip(bytes, at);
+            let answer = self.judge.offer_frame(bytes, at);
             return self.offer_at_the_last(fault, block, answer);
         }
-        self.offer(|ledger| ledger.offer_slip(bytes, at), false)
+        self.offer(|ledger| ledger.offer_frame(bytes, at), false)
     }
 
     fn offer_values(&mut self, block: &Block) -> Offer {
@@ -201,8 +200,7 @@ impl Subject for Wrong {
 fn found(fault: Fault) -> Option<u64> {
     let mut counts = Counts::default();
     (1..=SEEDS).find(|seed| {
-        let mut random = Random::new(!seed);
-        check(&bytes(*seed), &mut random, &mut counts, || Wrong::new(fault)).is_err()
+        check(&bytes(*seed), &mut numbers(*seed), &mut counts, || Wrong::new(fault)).is_err()
     })
 }
 

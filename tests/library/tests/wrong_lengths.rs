@@ -4,13 +4,11 @@
 
 use crosscheck::engine::format::{self, slip_at};
 use crosscheck::engine::{Block, Head};
-use crosscheck::generate::random::Random;
-use crosscheck_library::boundary::{Boundary, Buffer, Call, Lent, Library, BUFFERS};
-use crosscheck_library::{bytes, layout, lengths, Counts};
+use crosscheck_library::boundary::{Boundary, Buffer, Call, Lent, Library, BUFFERS, TOO_SHORT};
+use crosscheck_library::{bytes, layout, lengths, numbers, reports, Counts};
 
 /// The gate compares the library on so many seeds.
 const SEEDS: u64 = 500;
-const TOO_SHORT: u16 = 16;
 
 #[derive(Clone, Copy, Debug, PartialEq)]
 enum Fault {
@@ -57,7 +55,8 @@ fn faults() -> Vec<Fault> {
         Fault::GoesByLength,
     ];
     faults.extend(BUFFERS[..5].iter().copied().map(Fault::KeepsOtherwise));
-    for buffer in BUFFERS {
+    // What a text is written to is lent by no call here.
+    for buffer in BUFFERS.into_iter().filter(|buffer| *buffer != Buffer::Out) {
         faults.extend([Fault::Writes(buffer), Fault::WritesBehind(buffer)]);
         faults.extend([Fault::TakesOneShort(buffer), Fault::AsksOneMore(buffer)]);
     }
@@ -202,14 +201,33 @@ fn short(needs: &[(Buffer, usize)], lent: &mut Lent, last: bool) -> u64 {
 fn found(fault: Fault) -> Option<u64> {
     let mut counts = Counts::default();
     (1..=SEEDS).find(|seed| {
-        let mut random = Random::new(!seed);
-        lengths::check(&bytes(*seed), &mut random, &mut counts, &Wrong(fault)).is_err()
+        lengths::check(&bytes(*seed), &mut numbers(*seed), &mut counts, &Wrong(fault)).is_err()
     })
 }
 
-#[test]
-fn each_fault_is_found() {
-    for fault in faults() {
+/// Those of the call that writes a text, which lends nine buffers.
+fn faults_of_texts() -> Vec<Fault> {
+    let lent = layout::needs(&Call::Report(&[]), &Head { m: 0, a: 0, g: 0, t: 0 }, 0);
+    let each = |(buffer, _): (Buffer, usize)| {
+        let short = [Fault::Writes(buffer), Fault::TakesOneShort(buffer)];
+        [&short[..], &[Fault::WritesBehind(buffer), Fault::AsksOneMore(buffer)]].concat()
+    };
+    let mut faults = vec![Fault::TellsOneLess, Fault::TellsTheLast];
+    faults.extend(lent.into_iter().flat_map(each));
+    faults
+}
+
+/// The seed at which a fault is found there.
+fn found_in_texts(fault: Fault) -> Option<u64> {
+    let (mut counts, mut lent) = (Counts::default(), layout::largest());
+    (1..=SEEDS).find(|seed| {
+        let random = &mut numbers(*seed);
+        reports::check(&bytes(*seed), random, &mut counts, &Wrong(fault), &mut lent).is_err()
+    })
+}
+
+fn assert_found(faults: Vec<Fault>, found: fn(Fault) -> Option<u64>) {
+    for fault in faults {
         let seed = found(fault);
         println!("{fault:?}: {seed:?}");
         assert!(seed.is_some(), "{fault:?} is not found");
@@ -217,6 +235,17 @@ fn each_fault_is_found() {
 }
 
 #[test]
+fn each_fault_is_found() {
+    assert_found(faults(), found);
+}
+
+#[test]
+fn each_fault_of_texts_is_found() {
+    assert_found(faults_of_texts(), found_in_texts);
+}
+
+#[test]
 fn without_a_fault_nothing_is_found() {
     assert_eq!(found(Fault::None), None);
+    assert_eq!(found_in_texts(Fault::None), None);
 }

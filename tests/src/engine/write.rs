@@ -4,6 +4,8 @@
 //! can be made with them too. [`checked`] is the writer of the paper, with
 //! its refusals.
 
+pub mod checked;
+
 use super::format::{Block, Head, Operation, Posting, Transaction};
 use super::sheet::Sheet;
 
@@ -55,61 +57,4 @@ pub fn sheet(sheet: &Sheet) -> Vec<Vec<u8>> {
     let mut slips = vec![head(&sheet.head), starts(&sheet.starts)];
     slips.extend(sheet.transactions.iter().map(transaction));
     slips
-}
-
-/// "The writer of a slip knows the sheet so far; it gives 3 (kind not due), 4
-/// (a list of another length than its count), 5 (also for an unused cut entry
-/// that is not 0), 6 or 7, in that order with place 0". (16 comes after; here
-/// nothing is lent.)
-///
-/// Only the starts have a count, a, beside their list; the other lists are
-/// their own count here.
-pub mod checked {
-    use super::super::format::{Block, Head, Refusal, Transaction};
-    use super::super::ledger::MOST_CITATIONS;
-    use super::super::sheet::{self, Draft};
-
-    type Written = Result<Vec<u8>, Refusal>;
-
-    fn refuse(number: u8) -> Refusal {
-        Refusal::new(number, 0)
-    }
-
-    pub fn head(draft: &Draft, head: &Head) -> Written {
-        if *draft != Draft::Empty {
-            return Err(refuse(3));
-        }
-        sheet::check_head(head).map_err(refuse)?;
-        Ok(super::head(head))
-    }
-
-    pub fn starts(draft: &Draft, starts: &[u64]) -> Written {
-        let Draft::Headed(head) = draft else {
-            return Err(refuse(3));
-        };
-        if starts.len() != usize::from(head.a) {
-            return Err(refuse(4));
-        }
-        sheet::check_starts(starts).map_err(refuse)?;
-        Ok(super::starts(starts))
-    }
-
-    pub fn transaction(draft: &Draft, transaction: &Transaction) -> Written {
-        match draft {
-            Draft::Begun(sheet) if !sheet.is_complete() => {
-                sheet::check_transaction(&sheet.head, transaction).map_err(refuse)?;
-                Ok(super::transaction(transaction))
-            }
-            _ => Err(refuse(3)),
-        }
-    }
-
-    pub fn block(draft: &Draft, block: &Block) -> Written {
-        let sheet = draft.complete().ok_or(refuse(3))?;
-        let unused = &block.cut[sheet.instances()..];
-        if block.citations.len() > MOST_CITATIONS || unused.iter().any(|entry| *entry != 0) {
-            return Err(refuse(5));
-        }
-        Ok(super::block(block, sheet.head.m))
-    }
 }

@@ -47,7 +47,7 @@ fn library(fresh: &Ledger, run: &[u8], offsets: &[usize]) -> (Ledger, Vec<Offer>
     let mut ledger = fresh.clone();
     let answers = offsets
         .iter()
-        .map(|at| ledger.offer_slip(run, *at))
+        .map(|at| ledger.offer_frame(run, *at))
         .collect();
     (ledger, answers)
 }

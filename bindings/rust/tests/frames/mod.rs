@@ -1,7 +1,7 @@
-//! Slips as bytes, and the worked run of document 01.
+//! Frames as bytes, put together without the library, and the worked run of document 01.
 
-/// A slip of a kind and a body.
-pub fn slip(kind: u16, body: &[u8]) -> Vec<u8> {
+/// A frame of a kind and a body.
+pub fn frame(kind: u16, body: &[u8]) -> Vec<u8> {
     let length = body.len() as u32 + 2;
     [&length.to_le_bytes()[..], &kind.to_le_bytes(), body].concat()
 }
@@ -12,28 +12,28 @@ fn numbers(list: &[u16]) -> Vec<u8> {
         .collect()
 }
 
-/// A head: m, a, g and t.
-pub fn head(sizes: [u16; 4]) -> Vec<u8> {
-    slip(1, &numbers(&sizes))
+/// A header: m, a, g and t.
+pub fn header(sizes: [u16; 4]) -> Vec<u8> {
+    frame(1, &numbers(&sizes))
 }
 
-pub fn starts(balances: &[u64]) -> Vec<u8> {
-    let body: Vec<u8> = balances
+pub fn balances(list: &[u64]) -> Vec<u8> {
+    let body: Vec<u8> = list
         .iter()
-        .flat_map(|start| start.to_le_bytes())
+        .flat_map(|balance| balance.to_le_bytes())
         .collect();
-    slip(2, &body)
+    frame(2, &body)
 }
 
-/// A transaction: type, debits and credits as (account, amount), operations as (code, register, value).
+/// A transaction: kind, debits and credits as (account, amount), operations as (code, register, value).
 pub fn transaction(
-    sort: u8,
+    kind: u8,
     debits: &[(u16, u32)],
     credits: &[(u16, u32)],
     operations: &[(u8, u8, u32)],
 ) -> Vec<u8> {
     let counts = [debits.len(), credits.len(), operations.len()].map(|count| count as u8);
-    let mut body = [&[sort][..], &counts].concat();
+    let mut body = [&[kind][..], &counts].concat();
     for (account, amount) in debits.iter().chain(credits) {
         body.extend(account.to_le_bytes());
         body.extend(amount.to_le_bytes());
@@ -42,7 +42,7 @@ pub fn transaction(
         body.extend([*code, *register]);
         body.extend(value.to_le_bytes());
     }
-    slip(3, &body)
+    frame(3, &body)
 }
 
 /// A block; the cut is as long as the sheet has instances.
@@ -52,14 +52,14 @@ pub fn block(instance: u16, sequence: u16, rank: u32, cut: &[u16], citations: &[
     body.extend(numbers(&[citations.len() as u16]));
     body.extend(numbers(cut));
     body.extend(numbers(citations));
-    slip(4, &body)
+    frame(4, &body)
 }
 
-/// The sheet of "One reading, whole": m 2, a 3, g 1, t 2. Its slips begin at 0, 14, 44 and 72; it has 100 bytes.
+/// The sheet of "One reading, whole": m 2, a 3, g 1, t 2. Its frames begin at 0, 14, 44 and 72; it has 100 bytes.
 pub fn worked_sheet() -> Vec<u8> {
     [
-        head([2, 3, 1, 2]),
-        starts(&[10, 5, 0]),
+        header([2, 3, 1, 2]),
+        balances(&[10, 5, 0]),
         transaction(0, &[(0, 4), (1, 5)], &[(2, 9)], &[]),
         transaction(1, &[(2, 6)], &[(1, 6)], &[(2, 0, 7)]),
     ]
