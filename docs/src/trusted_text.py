@@ -19,12 +19,12 @@ import generated  # noqa: E402
 TABLE = "docs/generated/trusted-text.md"
 GROUPS = [
     ("demand 3", [("demand", "Claim", "Demand")], []),
-    ("that there are ledgers in use", [("demand", "Exists", "ChainsExist"), ("replay", "Exists", "RunChainsExist"), ("rugxeni", "OverBoundary", "BoundaryChainsExist")], []),
     ("the calls for loading, offers and readings", [], ["state", "offers", "readings", "account_records"]),
     ("the text of a reading", [], ["report"]),
     ("the readers of slips and their fields", [], ["fields", "refusals", "transactions", "frames"]),
     ("the writers", [("encoding", "OneWriting", "EachKind")], ["frames_write", "transactions_write"]),
     ("the boundary of the static library, with demand 3 over it", [("rugxeni", "OverBoundary", "OverBoundary")], ["rugxeni"]),
+    ("that there are ledgers in use", [("demand", "Exists", "ChainsExist"), ("replay", "Exists", "RunChainsExist"), ("rugxeni", "OverBoundary", "BoundaryChainsExist")], []),
     ("the bounds on what is lent", [("extent", "Claim", "TextFits"), ("extent", "Buffers", "BuffersFit"), ("report", "Reports", "ReportFits")], []),
 ]
 WORD = re.compile(r"[^\s()\[\]{},;⌜⌝]+")

@@ -21,7 +21,7 @@ use Rattle.refusals.specs.declared.Refusal.the-variants.{AccountTwice, BadLengt
 use Rattle.rugxeni.proofs.Carried.{front-ledger, fresh-numbers, load-carried, offer-carried}
 use Rattle.rugxeni.specs.Boundary.{OfferCall, ReadCall}
 use Rattle.rugxeni.specs.Numbers.{ledgerIn, numberOf, placeOf, size}
-use Rattle.rugxeni.specs.OverBoundary.{BoundaryCalls, BoundaryOpening, BoundaryUse, OverBoundary, anew, answerBy, answered, begin, beside, early, few, few-load, few-read, load, loading, moved, offer, reading, reported, short, reads, stop, taken}
+use Rattle.rugxeni.specs.OverBoundary.{BoundaryCalls, BoundaryOpening, BoundaryUse, OverBoundary, anew, answerBy, answered, begin, beside, early, few, few-load, few-read, load, load-less, loading, moved, offer, offer-less, reading, reported, short, reads, stop, taken}
 use Rattle.settlement.specs.Tables.{Buffers}
 use Rattle.sheets.specs.Sheet.{Sheet}
 use Rattle.state.specs.State.{Kept, kept}
@@ -45,6 +45,12 @@ opening-over (early {n} {cells} {told} {n'} {told'} {code} {S} {K} {K'} {W} {W'}
     let (k, e) = offer-carried n K W o told code n' K' W' told' h c in
     (k, subst (λ (l : Ledger). Opening l cells S) (sym e) (chain.early p u (c .offers h .1)))
 opening-over (beside o a) = opening-over o
+opening-over (load-less {n} {p} {cells} {run} {told} {p'} {cells'} {told'} {at} {code} {S} o u c) =
+    let (h, q) = opening-over o in
+    (h, subst (λ (k : List ℕ). Opening (ledgerIn n) k S) (sym (c .short u .2)) q)
+opening-over (offer-less {n} {p} {told} {p'} {told'} {code} {S} {K} {K'} {W} {W'} {o} b u c) =
+    let (h, q) = opening-over b in
+    (h, subst (λ (k : Kept). Opening (ledgerIn n) (k .sheet) S) (sym (c .short u .2)) q)
 opening-over (reported {n} {run} {out} {out'} {told} {told'} {code} {K} {K'} {W} {W'} {S} o c e) =
     let (h, p) = opening-over o in
     (h, subst (λ (k : Kept). Opening (ledgerIn n) (k .sheet) S) (sym (c .reports .2 .quiet e .1)) p)
@@ -74,6 +80,12 @@ calls-over (few-load {n} {n'} {n''} {run} {told} {other} {other'} {told'} {at} {
     let (v, D) = calls-over d k in
     (v, chain.few-load {r = c .loads u .0} (c .loads u .1) (subst (λ (l : Ledger). Calls l K es (ledgerIn n'') K') q D))
 calls-over (beside a d) u = calls-over d u
+calls-over (load-less {n} {n'} {p} {run} {told} {p'} {cells} {told'} {at} {code} {K} {K'} {es} v c d) u =
+    let (w, D) = calls-over d u in
+    (w, subst (λ (k : List ℕ). Calls (ledgerIn n) (kept k (K .ranks) (K .cuts) (K .cites) (K .good)) es (ledgerIn n') K') (c .short v .2) D)
+calls-over (offer-less {n} {n'} {p} {told} {p'} {told'} {code} {K} {K'} {K''} {es} {W} {W'} {o} v c d) u =
+    let (w, D) = calls-over d u in
+    (w, subst (λ (k : Kept). Calls (ledgerIn n) k es (ledgerIn n') K'') (c .short v .2) D)
 calls-over (reported {n} {n'} {run} {out} {out'} {told} {told'} {code} {K} {K'} {K''} {es} {W} {W'} c e d) u =
     let (v, D) = calls-over d u in
     (v, subst (λ (k : Kept). Calls (ledgerIn n) k es (ledgerIn n') K'') (c .reports .2 .quiet e .1) D)

@@ -51,16 +51,19 @@ reads {K = K} {W = W} {q = q} {outs = outs} {outs' = outs'} c h =
 
 -- ---- the calls
 
--- A call that no ledger's numbers or kept buffers are lent to be written: it leaves every ledger as it was
-pub data Apart : List ℕ → Type 0 where
-  -- the writers, to whom the numbers are lent to be read
+-- A call to which nothing that a ledger keeps is lent to be written: it leaves every ledger as it was
+pub data Apart : Type 0 where
+  -- the writers, which only read the numbers
   write : {n out out' told told' : List ℕ} {checked : Loading → Checked} {frame : Loading → List ℕ} {code : ℕ}
-      → WriteCall n checked frame out told code out' told' → Apart n
+      → WriteCall n checked frame out told code out' told' → Apart
   -- rugxeni_report, with buffers of its own
-  report : {n run out out' told told' : List ℕ} {J J' : Kept} {W W' : Buffers} {code : ℕ} → ReportCall run J W out told code J' W' out' told' → Apart n
+  report : {run out out' told told' : List ℕ} {J J' : Kept} {W W' : Buffers} {code : ℕ} → ReportCall run J W out told code J' W' out' told' → Apart
   -- rugxeni_frame
-  frame : {n told told' : List ℕ} {code : ℕ} (bytes : List ℕ) (at : ℕ)
-      → Said (frameNumber (frameAt bytes at)) (framePlace (frameAt bytes at)) (frameKind (frameAt bytes at)) code told told' → Apart n
+  frame : {told told' : List ℕ} {code : ℕ} (bytes : List ℕ) (at : ℕ)
+      → Said (frameNumber (frameAt bytes at)) (framePlace (frameAt bytes at)) (frameKind (frameAt bytes at)) code told told' → Apart
+  -- a reading with fewer than 22 numbers
+  read : {n told told' : List ℕ} {code : ℕ} {K : Kept} {W W' : Buffers} {q : Query} {outs outs' : List (List ℕ)}
+      → length n < size → ReadCall n K W q outs told code W' outs' told' → Apart
 
 -- The 22 numbers (or more), the cells of the sheet, and the sheet that the frames have said so far
 pub data BoundaryOpening : List ℕ → List ℕ → Sheet → Type 0 where
@@ -76,8 +79,14 @@ pub data BoundaryOpening : List ℕ → List ℕ → Sheet → Type 0 where
   -- an offer, with any buffers, that comes too early
   early : {n cells told n' told' : List ℕ} {code : ℕ} {S : Sheet} {K K' : Kept} {W W' : Buffers} {o : Offer} → BoundaryOpening n cells S
       → complete (ledgerIn n) ≡ false → OfferCall n K W o told code n' K' W' told' → BoundaryOpening n' cells S
-  -- a writer, a report or a frame's end
-  beside : {n cells : List ℕ} {S : Sheet} → BoundaryOpening n cells S → Apart n → BoundaryOpening n cells S
+  -- a call that leaves every ledger as it was
+  beside : {n cells : List ℕ} {S : Sheet} → BoundaryOpening n cells S → Apart → BoundaryOpening n cells S
+  -- rugxeni_load with fewer than 22 numbers
+  load-less : {n p cells run told p' cells' told' : List ℕ} {at code : ℕ} {S : Sheet} → BoundaryOpening n cells S → length p < size
+      → LoadCall p run at cells told code p' cells' told' → BoundaryOpening n cells' S
+  -- an offer with fewer than 22 numbers, the cells being lent
+  offer-less : {n p told p' told' : List ℕ} {code : ℕ} {S : Sheet} {K K' : Kept} {W W' : Buffers} {o : Offer} → BoundaryOpening n (K .sheet) S → length p < size
+      → OfferCall p K W o told code p' K' W' told' → BoundaryOpening n (K' .sheet) S
   -- rugxeni_report with the cells themselves, among buffers that are too short
   reported : {n run out out' told told' : List ℕ} {code : ℕ} {K K' : Kept} {W W' : Buffers} {S : Sheet} → BoundaryOpening n (K .sheet) S
       → (c : ReportCall run K W out told code K' W' out' told') → isAccepted (c .reports .0) ≡ false → BoundaryOpening n (K' .sheet) S
@@ -112,8 +121,15 @@ pub data BoundaryCalls : List ℕ → Kept → List Event → List ℕ → Kept 
   -- the same with any other cells
   few-load : {n n' n'' run told other other' told' : List ℕ} {at code : ℕ} {K K' : Kept} {es : List Event} → LoadCall n run at other told code n' other' told'
       → BoundaryCalls n' K es n'' K' → BoundaryCalls n K es n'' K'
-  -- a writer, a report or a frame's end
-  beside : {n n' : List ℕ} {K K' : Kept} {es : List Event} → Apart n → BoundaryCalls n K es n' K' → BoundaryCalls n K es n' K'
+  -- a call that leaves every ledger as it was
+  beside : {n n' : List ℕ} {K K' : Kept} {es : List Event} → Apart → BoundaryCalls n K es n' K' → BoundaryCalls n K es n' K'
+  -- rugxeni_load with fewer than 22 numbers
+  load-less : {n n' p run told p' cells told' : List ℕ} {at code : ℕ} {K K' : Kept} {es : List Event} → length p < size
+      → LoadCall p run at (K .sheet) told code p' cells told'
+      → BoundaryCalls n (kept cells (K .ranks) (K .cuts) (K .cites) (K .good)) es n' K' → BoundaryCalls n K es n' K'
+  -- an offer with fewer than 22 numbers
+  offer-less : {n n' p told p' told' : List ℕ} {code : ℕ} {K K' K'' : Kept} {es : List Event} {W W' : Buffers} {o : Offer} → length p < size
+      → OfferCall p K W o told code p' K' W' told' → BoundaryCalls n K' es n' K'' → BoundaryCalls n K es n' K''
   -- rugxeni_report with the kept buffers themselves, where one that is lent is too short
   reported : {n n' run out out' told told' : List ℕ} {code : ℕ} {K K' K'' : Kept} {es : List Event} {W W' : Buffers}
       (c : ReportCall run K W out told code K' W' out' told') → isAccepted (c .reports .0) ≡ false → BoundaryCalls n K' es n' K'' → BoundaryCalls n K es n' K''
