@@ -23,7 +23,7 @@ GROUPS = [
     ("the text of a reading", [], ["report"]),
     ("the readers of slips and their fields", [], ["fields", "refusals", "transactions", "frames"]),
     ("the writers", [("encoding", "OneWriting", "EachKind")], ["frames_write", "transactions_write"]),
-    ("the boundary of the static library, with demand 3 over it", [("rugxeni", "OverBoundary", "OverBoundary")], ["rugxeni"]),
+    ("the boundary of the static library, with demands 2 and 3 over it", [("rugxeni", "OverBoundary", "OverBoundary"), ("rugxeni", "WrittenRead", "WrittenRead")], ["rugxeni"]),
     ("that there are ledgers in use", [("demand", "Exists", "ChainsExist"), ("replay", "Exists", "RunChainsExist"), ("rugxeni", "OverBoundary", "BoundaryChainsExist")], []),
     ("the bounds on what is lent", [("extent", "Claim", "TextFits"), ("extent", "Buffers", "BuffersFit"), ("report", "Reports", "ReportFits")], []),
 ]
