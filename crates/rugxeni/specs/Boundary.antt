@@ -17,7 +17,8 @@ use Rattle.plain.specs.Report.{Query}
 use Rattle.readings.specs.Reading.{Reads}
 use Rattle.refusals.specs.declared.Checked.{Checked}
 use Rattle.report.specs.Reports.{Reports}
-use Rattle.rugxeni.specs.Numbers.{Said, isTaken, ledgerIn, lengthOr, loadNumber, loadPlace, numberOf, numbersOf, placeOf, size, writtenNumber, writtenPlace}
+use Rattle.rugxeni.specs.Numbers.{Said, isTaken, ledgerIn, loadNumber, loadPlace, numbersOf, size}
+use Rattle.rugxeni.specs.Numbers.{lengthOr, numberOf, placeOf, writtenNumber, writtenPlace}
 use Rattle.settlement.specs.Tables.{Buffers}
 use Rattle.state.specs.Loading.{LoadsSheet}
 use Rattle.state.specs.State.{Kept}
@@ -56,11 +57,13 @@ pub record ReadCall (numbers : List ℕ) (K : Kept) (W : Buffers) (q : Query) (o
   pub reads : size ≤ length numbers → (a : Answer) × (n : ℕ) × Reads (ledgerIn numbers) K W q outs a n W' outs' × Said (numberOf a) (placeOf a) n code told told'
 
 -- the text of a run, whole: no ledger goes in or comes out
-pub record ReportCall (run : List ℕ) (K : Kept) (W : Buffers) (out told : List ℕ) (code : ℕ) (K' : Kept) (W' : Buffers) (out' told' : List ℕ) : Type 0 where
+pub record ReportCall (run : List ℕ) (K : Kept) (W : Buffers) (out told : List ℕ)
+    (code : ℕ) (K' : Kept) (W' : Buffers) (out' told' : List ℕ) : Type 0 where
   pub reports : (a : Answer) × (n : ℕ) × Reports run K W out a n K' W' out' × Said (numberOf a) (lengthOr n a) 0 code told told'
 
 -- a frame: the writer's verdict on its values and the frame's bytes, each by the sheet so far, which the numbers say
-pub record WriteCall (numbers : List ℕ) (checked : Loading → Checked) (frame : Loading → List ℕ) (out told : List ℕ) (code : ℕ) (out' told' : List ℕ) : Type 0 where
+pub record WriteCall (numbers : List ℕ) (checked : Loading → Checked) (frame : Loading → List ℕ) (out told : List ℕ)
+    (code : ℕ) (out' told' : List ℕ) : Type 0 where
   pub short : length numbers < size → Said 16 size 0 code told told' × (out' ≡ out)
   pub writes : size ≤ length numbers → (w : Written) × Wrote (checked (ledgerIn numbers .loading)) (frame (ledgerIn numbers .loading)) out out' w
       × Said (writtenNumber w) (writtenPlace w) 0 code told told'

@@ -4,7 +4,8 @@ use frames::frame::frame;
 ghost use Rattle.frames.specs.Frame.{frameAt};
 ghost use Rattle.rugxeni.specs.Numbers.{Said, frameKind, frameNumber, framePlace};
 
-// The frame at the offset `at`. Returns 0, and in `told` where the next frame begins and the frame's kind; 1 or 2, and the offset, where no whole frame stands there; or 255 where no byte is left.
+// The frame at the offset `at`. Returns 0, and in `told` where the next frame begins and the frame's kind; 1 or 2, and the
+// offset, where no whole frame stands there; or 255 where no byte is left.
 #[no_mangle]
 pub extern "C" fn rugxeni_frame(bytes: &[u8], at: usize, told: &mut [u64]) -> u16
     ensures { λ r. ⌜ Said

@@ -7,7 +7,8 @@ use crate::replies::say_taken;
 use state::load::load_sheet;
 ghost use Rattle.rugxeni.specs.Boundary.{LoadCall};
 
-// The frame at the offset `at` of a run. Returns 0, and in `told` where the next frame begins; a refusal's number, and its place; or 255 once the sheet is complete.
+// The frame at the offset `at` of a run. Returns 0, and in `told` where the next frame begins; a refusal's number, and its
+// place; or 255 once the sheet is complete.
 #[no_mangle]
 pub extern "C" fn rugxeni_load(
     numbers: &mut [u16],

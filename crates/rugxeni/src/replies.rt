@@ -11,7 +11,8 @@ ghost use mathlib.Core.Path.{_≡_};
 ghost use Rattle.admission.specs.Replies.{replyTo};
 ghost use Rattle.offers.specs.Offering.{replyOf};
 ghost use Rattle.plain.specs.Answer.{isAccepted};
-ghost use Rattle.rugxeni.specs.Numbers.{Said, frameKind, frameNumber, framePlace, isTaken, lengthOr, loadNumber, loadPlace, numberOf, placeOf, writtenNumber, writtenPlace};
+ghost use Rattle.rugxeni.specs.Numbers.{Said, frameKind, frameNumber, framePlace, isTaken, loadNumber, loadPlace};
+ghost use Rattle.rugxeni.specs.Numbers.{lengthOr, numberOf, placeOf, writtenNumber, writtenPlace};
 
 fn put_told(told: &mut [u64], i: usize, v: u64)
     ensures { λ _. ⌜ now (told .exit) ≡ set (now (told .entry)) i v ⌝ }

@@ -5,8 +5,9 @@ ghost use Rattle.rugxeni.specs.Boundary.{ReportCall};
 ghost use Rattle.settlement.specs.Tables.{buffers};
 ghost use Rattle.state.specs.State.{kept};
 
-// What `readrun` prints of a run, written to the front of `out`. Returns 0, and in `told` the text's length; or 16, and the least length of the first short buffer, nothing being written.
-// The buffers are as long as the largest sheet needs them, and `out` has 262,144 places. They hold a ledger of the call's own: whoever keeps a ledger lends others.
+// What `readrun` prints of a run, written to the front of `out`. Returns 0, and in `told` the text's length; or 16, and the
+// least length of the first short buffer, nothing being written. The buffers are as long as the largest sheet needs them, and
+// `out` has 262,144 places. They hold a ledger of the call's own: whoever keeps a ledger lends others.
 #[no_mangle]
 pub extern "C" fn rugxeni_report(
     run: &[u8],
