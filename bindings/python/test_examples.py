@@ -70,13 +70,15 @@ class Pictures(unittest.TestCase):
             below = [(instance, sequence) for rank, instance, sequence in keys if (rank, instance) < draw.bar(reading)]
             self.assertEqual(below, reading.log)
 
-    def test_no_bar(self):
-        blocks = [rugxeni.Block(0, 1, 2**32 - 1, [0, 0])]
-        for given in (blocks, []):
+    def test_empty_instances(self):
+        """An instance without a block counts as having last rank 0."""
+        first, top, other = (rugxeni.Block(i, 1, rank, [0, 0]) for i, rank in [(0, 1), (0, 2**32 - 1), (1, 1)])
+        for given, bar, log in [([first], (1, 1), [(0, 1)]), ([top], (1, 1), []), ([other], (1, 0), []), ([], (1, 0), [])]:
             reading = rugxeni.read(rugxeni.write(rugxeni.Sizes(2, 1, 0, 0), [0], [], given))
             root, circles = self.drawn(reading)
-            self.assertIsNone(draw.bar(reading))
-            self.assertEqual((len(circles), root.find(f"{SVG}polyline"), reading.log), (len(given), None, []))
+            self.assertEqual((draw.bar(reading), reading.log, len(circles)), (bar, log, len(given)))
+            self.assertEqual([circle.get("fill") == draw.BLUE for circle in circles.values()], [bool(log)] * len(given))
+            self.assertIn(f"instance {bar[1]} has no block", ElementTree.tostring(root, encoding="unicode"))
 
     def test_shown(self):
         shown = (ROOT / "docs/pictures/group.svg").read_text()

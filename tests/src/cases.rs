@@ -1,15 +1,19 @@
-//! Named runs, each with the text that the scope paper gives for it.
+//! Named runs, each with the text that the scope paper gives for it, request
+//! 04 included.
 //!
-//! The texts are worked out by hand from the paper, not by the engine; the
+//! The texts are worked out by hand from the papers, not by the engine; the
 //! engine is checked against them, and so may be any other program.
 //!
 //! * [`edges`] — "Edges", and the worked run ended at every byte;
 //! * [`rules`] — places where a rule of the ledger is easily mistaken;
+//! * [`empty`], [`empty_views`] — request 04: instances without a block;
 //! * [`slips`] — refusals 1 to 7;
 //! * [`blocks`] — refusals 8 to 15 and 17.
 
 pub mod blocks;
 pub mod edges;
+pub mod empty;
+pub mod empty_views;
 pub mod rules;
 pub mod slips;
 
@@ -32,6 +36,8 @@ pub fn all() -> Vec<Case> {
         slips::of_the_sheet(),
         slips::among_the_blocks(),
         blocks::blocks(),
+        empty::empty(),
+        empty_views::views(),
     ]
     .into_iter()
     .flatten()

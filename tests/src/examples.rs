@@ -25,7 +25,7 @@ pub fn all() -> Vec<Example> {
     unseen[1] = block(0, 1, 2, &[0, 0], &[0, 1]);
     let worked = run(&worked_sheet(), &worked_blocks());
     let cut_short = worked[..worked.len() - 1].to_vec();
-    let group = generate::run(&mut Random::new(GROUP_SEED), Size::Small, 20);
+    let group = generate::plain(&mut Random::new(GROUP_SEED), Size::Small, 20);
     vec![
         Example { name: "unseen", run: run(&worked_sheet(), &unseen) },
         Example { name: "worked", run: worked },

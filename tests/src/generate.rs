@@ -3,6 +3,8 @@
 //! * [`random`] — the little generator of numbers;
 //! * [`sheets`] — sheets: scarce balances, chains, self payments, contracts;
 //! * [`blocks`] — deliveries: ranks, cuts, turns and citations of every habit;
+//! * [`pace`] — the habits of one delivery;
+//! * [`silent`] — runs with instances that deliver nothing, or begin late;
 //! * [`spoil`] — blocks that are to be turned away (8 to 15 and 17);
 //! * [`damage`] — slips and runs that are not sound (1 to 7);
 //! * [`bounds`] — runs that hang on the last place of every list;
@@ -12,14 +14,19 @@ pub mod blocks;
 pub mod bounds;
 pub mod damage;
 pub mod full;
+pub mod pace;
 pub mod random;
 pub mod sheets;
+pub mod silent;
 pub mod spoil;
 
 use crate::engine::text::LONGEST_RUN;
 use crate::engine::{write, Block, Logs, Sheet};
-use blocks::Pace;
+use pace::Pace;
 use random::Random;
+
+/// So many runs of a hundred are about instances that deliver nothing.
+const SILENT: u64 = 40;
 
 /// How large a run is.
 #[derive(Clone, Copy, Debug, PartialEq, Eq)]
@@ -70,17 +77,30 @@ impl Run {
 }
 
 /// A run of a size whose slips are all sound. `noise` is the share of offers,
-/// in percent, that are meant to be turned away.
+/// in percent, that are meant to be turned away. Many of the runs are about
+/// instances that deliver nothing.
 pub fn run(random: &mut Random, size: Size, noise: u64) -> Run {
+    if size != Size::Largest && random.chance(SILENT) {
+        return silent::run(random, size, noise);
+    }
+    plain(random, size, noise)
+}
+
+/// A run in which instances deliver nothing only by chance.
+pub fn plain(random: &mut Random, size: Size, noise: u64) -> Run {
     let sheet = sheets::sheet(random, size);
-    let taken: usize = write::sheet(&sheet).iter().map(Vec::len).sum();
-    let budget = match size {
-        Size::Largest => usize::MAX,
-        _ => LONGEST_RUN.saturating_sub(taken),
-    };
-    let pace = Pace::random(random, &sheet, size, budget, noise);
+    let pace = Pace::random(random, &sheet, size, budget(&sheet, size), noise);
     let offers = blocks::offers(random, &sheet, &pace);
     Run { sheet, offers }
+}
+
+/// How many bytes the blocks of a run may take.
+fn budget(sheet: &Sheet, size: Size) -> usize {
+    let taken: usize = write::sheet(sheet).iter().map(Vec::len).sum();
+    match size {
+        Size::Largest => usize::MAX,
+        _ => LONGEST_RUN.saturating_sub(taken),
+    }
 }
 
 /// Whether a seed stands for a run at the limits: every tenth does.

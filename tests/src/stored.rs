@@ -48,6 +48,8 @@ pub fn groups() -> Vec<Group> {
     vec![
         Group::new("edges", named(cases::edges::edges())),
         Group::new("rules", named(cases::rules::rules())),
+        Group::new("empty", named(cases::empty::empty())),
+        Group::new("empty_views", named(cases::empty_views::views())),
         Group::new("cut_off", named(cases::edges::truncations())),
         Group::new("sheets", named(cases::slips::of_the_sheet())),
         Group::new("slips", named(cases::slips::among_the_blocks())),
@@ -87,7 +89,7 @@ fn limits() -> Vec<Vec<u8>> {
         vec![0; LONGEST_RUN],
         vec![255; LONGEST_RUN + 1],
         // 65,536 bytes, most of them in blocks that are refused.
-        damage::filled(&generate::run(&mut Random::new(1), Size::Tiny, 0)),
+        damage::filled(&generate::plain(&mut Random::new(1), Size::Tiny, 0)),
     ]
 }
 

@@ -29,6 +29,16 @@ fn rules() {
 }
 
 #[test]
+fn instances_without_a_block() {
+    check(cases::empty::empty());
+}
+
+#[test]
+fn views_without_a_block_of_an_instance() {
+    check(cases::empty_views::views());
+}
+
+#[test]
 fn refusals_of_the_sheet() {
     check(cases::slips::of_the_sheet());
 }

@@ -74,19 +74,21 @@ impl Text<'_> {
         view.citations.iter().map(|citation| (*citation, self.good(*citation))).collect()
     }
 
-    /// The global log: a block is in it if it is below the bar.
+    /// The global log: a block is in it if it is below the bar, the least of
+    /// what each instance's last rank gives. Request 04: an instance without a
+    /// block in the view counts as having last rank 0.
     fn log(&self, view: &View) -> Vec<(usize, usize)> {
-        let pair = |&(instance, number): &(usize, usize)| {
-            u64::from(self.block(instance, number).rank) * 16 + instance as u64
+        let rank =
+            |&(instance, number): &(usize, usize)| u64::from(self.block(instance, number).rank);
+        let pair = |block: &(usize, usize)| rank(block) * 16 + block.0 as u64;
+        let last = |instance: usize| {
+            let own = view.blocks.iter().filter(|block| block.0 == instance);
+            own.map(rank).max().unwrap_or(0)
         };
-        let last =
-            |instance| view.blocks.iter().filter(|block| block.0 == instance).map(pair).max();
-        let lasts: Option<Vec<u64>> = (0..self.sheet.instances()).map(last).collect();
-        let Some(least) = lasts.and_then(|lasts| lasts.into_iter().min()) else {
-            return Vec::new();
-        };
+        let bars = (0..self.sheet.instances()).map(|i| (last(i) + 1) * 16 + i as u64);
+        let bars: Vec<u64> = bars.collect();
         let mut log = view.blocks.clone();
-        log.retain(|block| pair(block) < least + 16);
+        log.retain(|block| bars.iter().all(|bar| pair(block) < *bar));
         log.sort_by_key(pair);
         log
     }

@@ -19,10 +19,8 @@ INK, PALE, PAPER, BLUE, TINT, RED = "#333333", "#b5b5b5", "#ffffff", "#1f4e79", 
 
 
 def bar(reading):
-    """The bar as (rank, instance): the least of the instances' last blocks, one rank higher. None where an instance has no block."""
-    if not all(reading.blocks):
-        return None
-    rank, instance = min((blocks[-1].rank, blocks[-1].instance) for blocks in reading.blocks)
+    """The bar as (rank, instance): the least of the instances' last blocks, one rank higher. An instance without a block counts as having last rank 0."""
+    rank, instance = min((blocks[-1].rank if blocks else 0, i) for i, blocks in enumerate(reading.blocks))
     return rank + 1, instance
 
 
@@ -85,11 +83,6 @@ def draw_bar(plan, limit):
     yield label(steps[0][0], TOP - 12, f"bar {limit}", text_anchor="middle", fill=RED)
 
 
-def draw_no_bar(reading):
-    missing = ", ".join(str(i) for i, blocks in enumerate(reading.blocks) if not blocks)
-    yield label(LEFT, TOP - 12, f"no bar, and an empty log: no block of instance {missing}", fill=RED)
-
-
 def draw_block(plan, block, position, sets_bar):
     x, y = plan.columns[block.rank], plan.lane(block.instance)
     cited = f"cites {' '.join(map(str, block.citations))}" if block.citations else "cites nothing"
@@ -109,11 +102,19 @@ def draw_blocks(plan, reading, limit):
         yield from draw_block(plan, block, position.get((block.instance, block.sequence)), sets_bar)
 
 
-def draw_legend(plan, limit):
+def legend(plan, reading, limit):
+    """Rows of fill, stroke and words. Where the bar's instance has no block, none is the least of the last blocks."""
     numbers = ", with its position there" if plan.numbered else ""
-    rows = [(BLUE, BLUE, f"in the global log{numbers}"), (PAPER, BLUE, "accepted, not in the log")]
-    if limit:
-        rows.append((BLUE, RED, f"the least of the last blocks: the bar {limit} stands one rank above it, and the log is what is below the bar"))
+    least = (BLUE, RED, f"the least of the last blocks: the bar {limit} stands one rank above it, and the log is what is below the bar")
+    empty = (PAPER, PAPER, f"instance {limit[1]} has no block and counts as having last rank 0: the bar is {limit}, and the log is what is below it")
+    return [
+        (BLUE, BLUE, f"in the global log{numbers}"),
+        (PAPER, BLUE, "accepted, not in the log"),
+        least if reading.blocks[limit[1]] else empty,
+    ]
+
+
+def draw_legend(plan, rows):
     for k, (fill, stroke, words) in enumerate(rows):
         y = plan.below + LINE * (k + 1.5)
         yield tag("circle", cx=LEFT + 7, cy=y, r=6, fill=fill, stroke=stroke, stroke_width=2)
@@ -132,17 +133,17 @@ def summary(reading):
 def picture(reading, name):
     """The SVG text."""
     plan, limit = Plan(reading), bar(reading)
-    width, height = plan.right + RIGHT, plan.below + (5 if limit else 4) * LINE
+    width, height = plan.right + RIGHT, plan.below + 5 * LINE
     parts = [
         tag("title", escape(f"The run {name}")),
         tag("rect", width=width, height=height, fill=PAPER),
         label(LEFT, 26, name, font_size=16, font_weight="bold"),
         label(LEFT, 50, summary(reading)),
-        *(draw_bar(plan, limit) if limit else draw_no_bar(reading)),
+        *draw_bar(plan, limit),
         *draw_lanes(plan),
         *draw_axis(plan),
         *draw_blocks(plan, reading, limit),
-        *draw_legend(plan, limit),
+        *draw_legend(plan, legend(plan, reading, limit)),
     ]
     return tag(
         "svg",

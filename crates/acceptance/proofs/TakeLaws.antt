@@ -13,13 +13,14 @@ use Rattle.escrow.specs.Cells.{historyIn}
 use Rattle.state.proofs.Engine.{Roomy}
 use Rattle.state.proofs.Grows.{entry-new, rank-old}
 use Rattle.acceptance.proofs.Judged.{judged-all, withGood}
-use Rattle.state.proofs.OnCells.{last-prior}
+use Rattle.state.proofs.OnCells.{last-in}
 use Rattle.state.specs.Cells.{Cells, heightsIn, pastIn, storedIn, takenIn}
 use Rattle.acceptance.specs.Judging.{Judgeable, judgedGood}
 use Rattle.state.specs.State.{Kept, cellsOf, sheetOf, sizesOf}
 use Rattle.acceptance.specs.Taking.{Takeable}
 use Rattle.ordering.proofs.Usable.{climb-le, ordered}
-use Rattle.ordering.specs.Table.{Ordered, countIn, prior, rankIn}
+use Rattle.ordering.specs.Order.{lastOf}
+use Rattle.ordering.specs.Table.{Ordered, countIn, rankIn}
 use Rattle.plain.proofs.Admits.{Admits, admitted}
 use Rattle.plain.proofs.AnswerLaws.{lent-enough}
 use Rattle.plain.specs.Logs.{Values}
@@ -97,8 +98,8 @@ module _ (l : Ledger) (K : Kept) (W : Buffers) (b : Values) (T : Takeable l K W 
   pub space : heightsIn (cellsOf l K) (b .instance) < 128
   space = omega (arith, A .room, height-of (b .instance))
 
-  above : prior (rankIn (K .ranks) (b .instance)) (heightsIn (cellsOf l K) (b .instance)) < b .rank
-  above = omega (arith, A .above, last-prior (cellsOf l K) (b .instance))
+  above : lastOf (rankIn (K .ranks) (b .instance)) (heightsIn (cellsOf l K) (b .instance)) < b .rank
+  above = omega (arith, A .above, last-in (cellsOf l K) (b .instance))
 
   short : (j : ℕ) → heightsIn (cellsOf l K) j ≤ 128
   short j = omega (arith, climb-le (rankIn (K .ranks) j) (min (countIn (l .heights) j) 128))

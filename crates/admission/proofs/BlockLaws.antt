@@ -7,12 +7,14 @@ use lib.ListN.{getD, length}
 use mathlib.Core.Bool.{Bool, false, not, true}
 use mathlib.Core.List.{List, []}
 use mathlib.Core.Path.{_∙_, _≡_, ap, ap₂, refl, sym}
+use native.Mathlib.Omega.{arith}
 use Rattle.admission.specs.Citing.{citesIn, valuesOf, valuesWith}
 use Rattle.admission.specs.Replies.{citesOnly, cutsOnly, listsAnswer, ranksOnly}
 use Rattle.escrow.specs.Cells.{historyIn}
 use Rattle.sheets.specs.Sheet.{sheetIn}
 use Rattle.frames.specs.declared.block.Block.{Block}
-use Rattle.ordering.specs.Table.{countIn}
+use Rattle.ordering.proofs.Laws.{last-none, last-some}
+use Rattle.ordering.specs.Table.{countIn, rankIn}
 use Rattle.plain.proofs.AnswerLaws.{refuse-false, refuse-true, then-go, then-stop}
 use Rattle.plain.specs.Answer.{Answer, _then_, accepted, firstTo, refuse, refused}
 use Rattle.plain.specs.Logs.{Values}
@@ -49,13 +51,13 @@ values-front S lent b = refl
 module _ (heights ranks : List ℕ) (i : ℕ) {h : ℕ} (q : h ≡ countIn heights i) where
   pub rank-none : h ≡ 0 → 0 ≡ lastRank (ranksOnly heights ranks) i
   unfolding lastRank historyIn
-  rank-none z = sym (pick-true _ _ _ (eq-eqb _ 0 (sym q ∙ z)))
+  rank-none z = sym (last-none (rankIn ranks i) (countIn heights i) (omega (arith, q)))
 
   pub rank-some : {at v : ℕ} → (h ≡ 0 → ⊥) → at ≡ i * 128 + (h - 1) → v ≡ getD ranks at 0 → v ≡ lastRank (ranksOnly heights ranks) i
   unfolding lastRank historyIn
   rank-some n p r =
       r ∙ ap (λ (k : ℕ). getD ranks k 0) (p ∙ ap (λ (k : ℕ). i * 128 + (k - 1)) q)
-      ∙ sym (pick-false _ _ _ (ne-eqb _ 0 (λ z. n (q ∙ z))))
+      ∙ sym (last-some (rankIn ranks i) (countIn heights i) (omega (arith, q)))
 
 -- ---- 8, 17, 9, 10, then the rest
 

@@ -7,10 +7,12 @@ use lib.ListN.{getD}
 use mathlib.Core.Bool.{Bool, false, not, true}
 use mathlib.Core.List.{List, []}
 use mathlib.Core.Path.{_∙_, _≡_, ap, ap₂, refl, sym}
+use native.Mathlib.Omega.{arith}
 use Rattle.admission.specs.Citing.{valuesWith}
 use Rattle.admission.specs.Replies.{cutsOnly}
 use Rattle.escrow.specs.Cells.{historyIn}
 use Rattle.frames.specs.declared.block.Block.{Block}
+use Rattle.ordering.proofs.Laws.{last-none, last-some}
 use Rattle.ordering.specs.Table.{countIn}
 use Rattle.plain.specs.Plain.{entryOff, lastEntry}
 use Rattle.sums.proofs.TestLaws.{pick-false, pick-true}
@@ -33,13 +35,13 @@ module _ (m : ℕ) (cut : List ℕ) (e : ℕ) where
 module _ (heights cuts : List ℕ) (i e : ℕ) {h : ℕ} (q : h ≡ countIn heights i) where
   pub entry-none : h ≡ 0 → 0 ≡ lastEntry (cutsOnly heights cuts) i e
   unfolding lastEntry historyIn
-  entry-none z = sym (pick-true _ _ _ (eq-eqb _ 0 (sym q ∙ z)))
+  entry-none z = sym (last-none (λ n. getD cuts ((i * 128 + n) * 16 + e) 0) (countIn heights i) (omega (arith, q)))
 
   pub entry-some : {at v : ℕ} → (h ≡ 0 → ⊥) → at ≡ (i * 128 + (h - 1)) * 16 + e → v ≡ getD cuts at 0 → v ≡ lastEntry (cutsOnly heights cuts) i e
   unfolding lastEntry historyIn
   entry-some n p r =
       r ∙ ap (λ (k : ℕ). getD cuts k 0) (p ∙ ap (λ (k : ℕ). (i * 128 + (k - 1)) * 16 + e) q)
-      ∙ sym (pick-false _ _ _ (ne-eqb _ 0 (λ z. n (q ∙ z))))
+      ∙ sym (last-some (λ n. getD cuts ((i * 128 + n) * 16 + e) 0) (countIn heights i) (omega (arith, q)))
 
 -- ---- 11
 

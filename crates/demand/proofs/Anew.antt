@@ -17,6 +17,7 @@ use Rattle.plain.proofs.Alike.{alike-extends}
 use Rattle.plain.proofs.Engine.{Alike}
 use Rattle.plain.proofs.Kept as plain
 use Rattle.plain.proofs.Kept.{proper}
+use Rattle.ordering.proofs.Laws.{last-ext}
 use Rattle.plain.specs.Logs.{Logs}
 use Rattle.sheets.proofs.ProperLaws.{ProperSheet}
 use Rattle.sheets.proofs.SheetCells.{sheet-m}
@@ -33,11 +34,9 @@ use Rattle.sums.proofs.SumLaws.{sum-ext}
 kept-alike : (S : Sheet) (H H' : History) → Alike (S .m) H H' → plain.Kept S H → plain.Kept S H'
 kept-alike S H H' a k = record {
   short = λ j u. omega (arith, k .short j u, a .heights j u);
-  ranked = λ j n u v. let w : n < H .height j = omega (arith, a .heights j u) in omega (arith, k .ranked j n u w, a .ranks j n u w);
-  asc = λ j u n n' v w.
-      let z : n' < H .height j = omega (arith, a .heights j u) in
-      let y : n < H .height j = omega arith in
-      omega (arith, k .asc j u n n' v z, a .ranks j n u y, a .ranks j n' u z);
+  climbs = λ j u n v.
+      let w : n < H .height j = omega (arith, a .heights j u) in
+      omega (arith, k .climbs j u n w, a .ranks j n u w, last-ext (H .rank j) (H' .rank j) n (λ i x. a .ranks j i u (omega arith)));
   cut-in = λ j n e u v w. let z : n < H .height j = omega (arith, a .heights j u) in omega (arith, k .cut-in j n e u z w, a .entries j n e u z w, a .heights e w);
   cut-up = λ j n n' e u v w x.
       let z : n' < H .height j = omega (arith, a .heights j u) in

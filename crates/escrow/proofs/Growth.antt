@@ -13,7 +13,7 @@ use Rattle.escrow.proofs.Outcomes.{ProperLogs, judge-local, outcome-is,
 use Rattle.escrow.specs.Amounts.{partGood}
 use Rattle.escrow.specs.Outcome.{Citation, History, InLogs, citation, fullView, judge, outcome, rowsOf, viewOf}
 use Rattle.escrow.specs.Report.{rowsAll, statusAll}
-use Rattle.ordering.proofs.Prefix.{Ascends}
+use Rattle.ordering.specs.Table.{Climbs}
 use Rattle.settlement.proofs.StatusLaws.{Once, status-keeps, viewLog-begins}
 use Rattle.settlement.proofs.ViewOnly.{Same, status-same, viewLog-same}
 use Rattle.settlement.specs.Contracts.{pending}
@@ -82,9 +82,9 @@ module _ (S : Sheet) (some : 0 < S .m) (H H' : History) (F : ProperLogs S H) (F'
   unfolding fullView
   full-grown j l = omega (arith, E .longer j l)
 
-  pub full-asc : (j : ℕ) → j < S .m → Ascends (rowsAll S H' .rank j) (fullView H' j / 32)
+  pub full-climbs : (j : ℕ) → j < S .m → Climbs (rowsAll S H' .rank j) (fullView H' j / 32)
   unfolding fullView rowsAll rowsOf
-  full-asc j l n n' u w = F' .asc j l n n' u (omega arith)
+  full-climbs j l n u = F' .climbs j l n (omega arith)
 
   pub full-once : Once S (rowsAll S H') (fullView H')
   unfolding fullView rowsAll rowsOf isCite eventAt
@@ -94,10 +94,10 @@ module _ (S : Sheet) (some : 0 < S .m) (H H' : History) (F : ProperLogs S H) (F'
   pub log-grown : Begins (logAll S H) (logAll S H')
   unfolding logAll
   log-grown = rw (viewLog-same S some (fullView H) (fullView H) (rowsAll S H) (rowsAll S H') full-same)
-      (viewLog-begins S some (rowsAll S H') (fullView H) (fullView H') full-grown full-asc full-once)
+      (viewLog-begins S some (rowsAll S H') (fullView H) (fullView H') full-grown full-climbs full-once)
 
   -- what is settled is settled alike
   pub status-grown : (x : ℕ) → statusAll S H x ≢ pending → statusAll S H' x ≡ statusAll S H x
   unfolding statusAll
   status-grown x = rw (status-same S some (fullView H) (fullView H) (rowsAll S H) (rowsAll S H') full-same x)
-      (status-keeps S some (rowsAll S H') (fullView H) (fullView H') full-grown full-asc full-once x)
+      (status-keeps S some (rowsAll S H') (fullView H) (fullView H') full-grown full-climbs full-once x)

@@ -11,7 +11,7 @@ use native.Mathlib.Omega.{arith}
 use Rattle.escrow.proofs.AmountsViewOnly.{partGood-same}
 use Rattle.escrow.proofs.Fixpoint.{fixpoint, unique}
 use Rattle.escrow.specs.Outcome.{Citation, History, InLogs, citation, depth, judge, outcome, rowsOf, viewOf}
-use Rattle.ordering.proofs.Prefix.{Ascends}
+use Rattle.ordering.specs.Table.{Climbs}
 use Rattle.sheets.specs.Parts.{hasPart}
 use Rattle.sheets.specs.Sheet.{Sheet, txCount}
 use Rattle.sums.proofs.TestLaws.{by-pick, pick-false, pick-true}
@@ -20,7 +20,7 @@ use Rattle.sums.specs.Test.{given}
 
 -- what acceptance ensures of the logs. arrival is some order in which each block comes after those of its view
 pub record ProperLogs (S : Sheet) (H : History) : Type 0 where
-  pub asc : (j : ℕ) → j < S .m → Ascends (λ n. H .rank j n) (H .height j)
+  pub climbs : (j : ℕ) → j < S .m → Climbs (H .rank j) (H .height j)
   pub cut-in : (j n i : ℕ) → j < S .m → n < H .height j → i < S .m → i ≢ j → H .entry j n i ≤ H .height i
   pub cut-up : (j n n' i : ℕ) → j < S .m → n ≤ n' → n' < H .height j → i < S .m → i ≢ j → H .entry j n i ≤ H .entry j n' i
   pub once : (x j : ℕ) → x < txCount S → j < S .m

@@ -12,7 +12,7 @@ use native.Mathlib.Decide.{ℕ-discrete}
 use native.Mathlib.Omega.{arith}
 use Rattle.escrow.proofs.FullView.{freeAll, heldAll}
 use Rattle.escrow.proofs.Balance.{Keeps, no-overdraft, total}
-use Rattle.escrow.proofs.Growth.{Extends, full-asc, full-once}
+use Rattle.escrow.proofs.Growth.{Extends, full-climbs, full-once}
 use Rattle.escrow.proofs.Outcomes.{ProperLogs, outcome-is, view-inside, viewOf-own}
 use Rattle.escrow.specs.Amounts.{coveredBy, credited, free, freeBy, held, isPaid, partGood, reserved}
 use Rattle.escrow.specs.Outcome.{History, citation, fullView, judge, outcome, rowsOf, viewOf}
@@ -72,7 +72,7 @@ module _ (S : Sheet) (Q : ProperSheet S) (H : History) (F : ProperLogs S H) wher
   unfolding statusAll
   keeps j p l u x =
       status-keeps S (Q .some) (rowsAll S H) (viewOf H j p) (fullView H) (λ i k. unfold fullView in view-inside S H F j p i l u k)
-      (full-asc S (Q .some) H H F F (itself S H)) (full-once S (Q .some) H H F F (itself S H)) x
+      (full-climbs S (Q .some) H H F F (itself S H)) (full-once S (Q .some) H H F F (itself S H)) x
 
   judged : (k p : ℕ) → p < H .height (home S k) * 32 → outcome S H (citation (home S k) p) ≡ true
       → amountOn (txAt S (rowsAll S H .cell (home S k) p) .debits) k ≤ freeBy S (rowsAll S H) (status S (rowsAll S H) (viewOf H (home S k) p)) p k
@@ -137,6 +137,6 @@ module _ (S : Sheet) (Q : ProperSheet S) (H : History) (F : ProperLogs S H) wher
       no-overdraft S (rowsAll S H) k (λ q. status S (rowsAll S H) (viewOf H (home S k) q)) (status S (rowsAll S H) (viewOf H (home S k) p)) p
       (λ q l x. status-keeps S (Q .some) (rowsAll S H) (viewOf H (home S k) q) (viewOf H (home S k) p)
       (λ i y. view-grown-own (home S k) q p i (home-lt S (Q .some) k) (omega arith) u y)
-      (λ j y n n' a b. F .asc j y n n' a (omega (arith, view-inside S H F (home S k) p j (home-lt S (Q .some) k) u y)))
+      (λ j y n a. F .climbs j y n (omega (arith, view-inside S H F (home S k) p j (home-lt S (Q .some) k) u y)))
       (view-once (home S k) p (home-lt S (Q .some) k) u) x)
       (λ q l g. judged k q (omega arith) g)

@@ -2,7 +2,7 @@
 -- A frame after which the output goes on is a block of at least 16 bytes, so that a run of 65,536 bytes has at most 4,096 of them, and one more that ends it.
 -- Assumes nothing.
 use Prim.Native.Nat.{_*_, _+_, _-_, _<_, _≤_, suc, zero, ℕ}
-use borrow.Author.Tests.{eqb-false, le-leb, leb-false, lt-leb, ltb-false}
+use borrow.Author.Tests.{eqb-false, le-leb, leb-false, lt-leb, ltb-false, ltb-true}
 use lib.Dec.{eqb, leb, ltb}
 use lib.ListN.{drop, length, length-append, length-take}
 use mathlib.Core.Bool.{Bool, false, true}
@@ -73,8 +73,9 @@ module _ (S : Sheet) (T : SheetFits S) (L : Logs) (f : LogsFit S L) where
   last-low : (i : ℕ) → i < S .m → lastRank (historyOf L) i < 18446744073709551616
   unfolding lastRank
   last-low i l =
-      by-pick (λ (n : ℕ). n < 18446744073709551616) (eqb (historyOf L .height i) 0) (λ e. omega arith)
-      (λ e. let u : historyOf L .height i - 1 < historyOf L .height i = omega (arith, eqb-false (historyOf L .height i) 0 e) in omega (arith, f .ranks i (historyOf L .height i - 1) l u))
+      by-pick (λ (n : ℕ). n < 18446744073709551616) (ltb 0 (historyOf L .height i))
+      (λ e. let u : historyOf L .height i - 1 < historyOf L .height i = omega (arith, ltb-true 0 (historyOf L .height i) e) in omega (arith, f .ranks i (historyOf L .height i - 1) l u))
+      (λ e. omega arith)
 
   block-small : (b : Values) → ValuesFit b → Small (blockAnswer S (historyOf L) b)
   unfolding blockAnswer citeAnswer

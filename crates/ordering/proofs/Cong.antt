@@ -30,12 +30,12 @@ module _ (m : ℕ) (R S : ℕ → ℕ → ℕ) (F G : ℕ → ℕ) (counts : (j 
       go (yes h) =
           let e = counts j l in
           let r = ranks j (F j - 1) l (omega arith) ∙ ap (λ (x : ℕ). S j (x - 1)) e in
-          let a = ceiling-some R F j (F j) (R j (F j - 1)) (keyOf (R j (F j - 1)) j) refl h refl refl in
-          let b = ceiling-some S G j (G j) (S j (G j - 1)) (keyOf (S j (G j - 1)) j) refl (omega arith) refl refl in
+          let a = ceiling-some R F j h in
+          let b = ceiling-some S G j (omega arith) in
           omega arith
       go (no h) =
           let e = counts j l in
-          sym (ceiling-none R F j (F j) refl (omega arith)) ∙ ceiling-none S G j (G j) refl (omega arith)
+          ceiling-none R F j (omega arith) ∙ sym (ceiling-none S G j (omega arith))
 
   entry-cong : (x : ℕ) → entryAt m R F x ≡ entryAt m S G x
   unfolding entryAt

@@ -9,21 +9,34 @@ use mathlib.Core.Path.{_∙_, _≡_, ap, ap₂, refl, sym}
 use native.Mathlib.Decide.{decLt, ℕ-discrete}
 use native.Mathlib.Numerals.{add-one}
 use native.Mathlib.Omega.{arith}
-use Rattle.ordering.specs.Order.{ceilingOf, entryAt, keyOf, logTo, refOf, seek}
+use Rattle.ordering.specs.Order.{ceilingOf, entryAt, keyOf, lastOf, logTo, refOf, seek}
 use Rattle.ordering.specs.Table.{nextOf}
 use Rattle.sums.proofs.TestLaws.{pick-false, pick-true}
 use Rattle.sums.specs.Seq.{only, onlyIf}
 
--- ---- what an instance allows, and its next key
-pub ceiling-some : (R : ℕ → ℕ → ℕ) (F : ℕ → ℕ) (j n r k : ℕ) → n ≡ F j → 0 < n → r ≡ R j (n - 1) → k ≡ keyOf r j → k + 16 ≡ ceilingOf R F j
-ceiling-some R F j n r k e h er ek =
-    let t : ltb 0 (F j) ≡ true = lt-ltb 0 (F j) (omega arith) in
-    let q : r ≡ R j (F j - 1) = er ∙ ap (λ (x : ℕ). R j (x - 1)) e in
-    omega (arith, pick-true (ltb 0 (F j)) (keyOf (R j (F j - 1)) j + 16) 0 t)
+-- ---- the last block, what an instance allows, and its next key
+pub last-some : (f : ℕ → ℕ) (n : ℕ) → 0 < n → lastOf f n ≡ f (n - 1)
+last-some f n h = pick-true (ltb 0 n) (f (n - 1)) 0 (lt-ltb 0 n h)
 
-pub ceiling-none : (R : ℕ → ℕ → ℕ) (F : ℕ → ℕ) (j n : ℕ) → n ≡ F j → n ≤ 0 → 0 ≡ ceilingOf R F j
-ceiling-none R F j n e h =
-    sym (pick-false (ltb 0 (F j)) (keyOf (R j (F j - 1)) j + 16) 0 (le-ltb 0 (F j) (omega arith)))
+pub last-none : (f : ℕ → ℕ) (n : ℕ) → n ≤ 0 → lastOf f n ≡ 0
+last-none f n h = pick-false (ltb 0 n) (f (n - 1)) 0 (le-ltb 0 n h)
+
+-- the last of one more is the new one
+pub last-next : (f : ℕ → ℕ) (n : ℕ) → lastOf f (n + 1) ≡ f n
+last-next f n = last-some f (n + 1) (omega arith) ∙ ap f (let e : n + 1 - 1 ≡ n = omega arith in e)
+
+-- it hangs on the first n alone
+pub last-ext : (f g : ℕ → ℕ) (n : ℕ) → ((k : ℕ) → k < n → f k ≡ g k) → lastOf f n ≡ lastOf g n
+last-ext f g n h = elim (decLt 0 n) [
+  | yes l ↦ last-some f n l ∙ h (n - 1) (omega arith) ∙ sym (last-some g n l)
+  | no l ↦ last-none f n (omega arith) ∙ sym (last-none g n (omega arith))
+]
+
+pub ceiling-some : (R : ℕ → ℕ → ℕ) (F : ℕ → ℕ) (j : ℕ) → 0 < F j → ceilingOf R F j ≡ keyOf (R j (F j - 1) + 1) j
+ceiling-some R F j h = ap (λ (r : ℕ). keyOf (r + 1) j) (last-some (R j) (F j) h)
+
+pub ceiling-none : (R : ℕ → ℕ → ℕ) (F : ℕ → ℕ) (j : ℕ) → F j ≤ 0 → ceilingOf R F j ≡ keyOf 1 j
+ceiling-none R F j h = ap (λ (r : ℕ). keyOf (r + 1) j) (last-none (R j) (F j) h)
 
 pub next-some : (R : ℕ → ℕ → ℕ) (F : ℕ → ℕ) (b : ℕ) (C : ℕ → ℕ) (j n f r k : ℕ) → n ≡ C j → f ≡ F j → n < f → r ≡ R j n → k ≡ keyOf r j → k ≡ nextOf R F b C j
 next-some R F b C j n f r k en ef h er ek =

@@ -7,3 +7,4 @@ pub mod Prefix
 pub mod LogSum
 pub mod Whole
 pub mod Log
+pub mod LogRules

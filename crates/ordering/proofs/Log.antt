@@ -1,6 +1,6 @@
 -- "The log is every block of the view below the bar, ascending": each is there exactly once, and keys rise from block to block.
 -- Assumes nothing.
-use Prim.Native.Nat.{_%_, _/_, _<_, _≤_, suc, zero, ℕ}
+use Prim.Native.Nat.{_%_, _+_, _/_, _<_, _≤_, suc, zero, ℕ}
 use borrow.Author.Tests.{eqb-true, lt-ltb, ltb-true}
 use lib.Dec.{eqb, ltb}
 use mathlib.Core.Bool.{Bool, false, true}
@@ -9,6 +9,7 @@ use mathlib.Core.Path.{_∙_, _≡_, ap, refl}
 use native.Mathlib.Omega.{arith}
 use Rattle.ordering.proofs.LogSum.{log-sum, logSum}
 use Rattle.ordering.proofs.Prefix.{Ascends, all-entry, all-seek, all-to}
+use Rattle.ordering.specs.Claim.{Ascending, keyIn, timesIn}
 use Rattle.ordering.specs.Order.{Ref, barOf, entryAt, globalLog, keyOf, logTo, refOf, seek}
 use Rattle.sums.proofs.SeqLaws.{all-append, all-map}
 use Rattle.sums.proofs.SumLaws.{sum-ext}
@@ -17,14 +18,16 @@ use Rattle.sums.specs.Seq.{All, only, onlyIf}
 use Rattle.sums.specs.Sum.{sumTo}
 use Rattle.sums.specs.Test.{given}
 
--- how often block n of instance i stands in a list of blocks
-abbrev pub timesIn : ℕ → ℕ → List Ref → ℕ
-timesIn i n l = logSum (λ j k. given (eqb i j) (given (eqb n k) 1)) l
+times-sum : (i n : ℕ) (l : List Ref) → timesIn i n l ≡ logSum (λ j k. given (eqb i j) (given (eqb n k) 1)) l
+unfolding timesIn logSum
+times-sum i n [] = refl
+times-sum i n (b ∷ l) = ap (λ (k : ℕ). given (eqb i (b .instance)) (given (eqb n (b .index)) 1) + k) (times-sum i n l)
 
 pub log-once : (m : ℕ) → m ≤ 16 → (R : ℕ → ℕ → ℕ) (F : ℕ → ℕ) (i n : ℕ) → i < m → n < F i → keyOf (R i n) i < barOf m R F
     → timesIn i n (globalLog m R F) ≡ 1
 log-once m small R F i n l h b =
-    log-sum m small R F (λ j k. given (eqb i j) (given (eqb n k) 1))
+    times-sum i n (globalLog m R F)
+    ∙ log-sum m small R F (λ j k. given (eqb i j) (given (eqb n k) 1))
     ∙ sum-ext m _ _ (λ j u. sum-ext (F j) _ _ (λ k w. given-given _ (eqb i j) _) ∙ sum-given (eqb i j) (F j) _)
     ∙ sum-only m (λ j. sumTo (F j) (λ k. given (ltb (keyOf (R j k) j) (barOf m R F)) (given (eqb n k) 1))) i
     ∙ given-true _ _ (lt-ltb i m l)
@@ -32,11 +35,6 @@ log-once m small R F i n l h b =
     ∙ sum-only (F i) (λ k. given (ltb (keyOf (R i k) i) (barOf m R F)) 1) n
     ∙ given-true _ _ (lt-ltb n (F i) h)
     ∙ given-true _ _ (lt-ltb _ _ b)
-
--- each element's key is below those of all that follow
-abbrev pub Ascending : {A : Type 0} → (A → ℕ) → List A → Type 0
-Ascending key [] = Unit {0}
-Ascending key (x ∷ l) = All (λ y. key x < key y) l × Ascending key l
 
 ascending-append : {A : Type 0} (key : A → ℕ) (l l' : List A) → Ascending key l → Ascending key l' → All (λ x. All (λ y. key x < key y) l') l
     → Ascending key (l ++ l')
@@ -64,27 +62,23 @@ ascending-seek key f r (suc n) up =
     go k l e false q = tt
 
 module _ (m : ℕ) (R : ℕ → ℕ → ℕ) (F : ℕ → ℕ) (up : (j : ℕ) → j < m → Ascends (R j) (F j)) where
-  -- a block's key
-  abbrev keyIn : Ref → ℕ
-  keyIn b = keyOf (R (b .instance) (b .index)) (b .instance)
-
-  ascending-entry : (x : ℕ) → Ascending keyIn (entryAt m R F x)
+  ascending-entry : (x : ℕ) → Ascending (keyIn R) (entryAt m R F x)
   unfolding entryAt
   ascending-entry x = go (ltb (x % 16) m) refl
     where
-      go : (t : Bool) → ltb (x % 16) m ≡ t → Ascending keyIn (onlyIf t (map (refOf (x % 16)) (seek (R (x % 16)) (x / 16) (F (x % 16)))))
+      go : (t : Bool) → ltb (x % 16) m ≡ t → Ascending (keyIn R) (onlyIf t (map (refOf (x % 16)) (seek (R (x % 16)) (x / 16) (F (x % 16)))))
       go true e =
-          ascending-map keyIn (refOf (x % 16)) (seek (R (x % 16)) (x / 16) (F (x % 16)))
-          (ascending-seek (λ n. keyIn (refOf (x % 16) n)) (R (x % 16)) (x / 16) (F (x % 16)) (up (x % 16) (ltb-true (x % 16) m e)))
+          ascending-map (keyIn R) (refOf (x % 16)) (seek (R (x % 16)) (x / 16) (F (x % 16)))
+          (ascending-seek (λ n. keyIn R (refOf (x % 16) n)) (R (x % 16)) (x / 16) (F (x % 16)) (up (x % 16) (ltb-true (x % 16) m e)))
       go false e = tt
 
-  ascending-to : (k : ℕ) → Ascending keyIn (logTo m R F k)
+  ascending-to : (k : ℕ) → Ascending (keyIn R) (logTo m R F k)
   unfolding logTo
   ascending-to zero = tt
   ascending-to (suc k) =
-      ascending-append keyIn (logTo m R F k) (entryAt m R F k) (ascending-to k) (ascending-entry k)
-      (all-to m R F (λ b. All (λ c. keyIn b < keyIn c) (entryAt m R F k)) k (λ i n a h u. all-entry m R F (λ c. keyOf (R i n) i < keyIn c) k (λ i' n' a' h' e. omega arith)))
+      ascending-append (keyIn R) (logTo m R F k) (entryAt m R F k) (ascending-to k) (ascending-entry k)
+      (all-to m R F (λ b. All (λ c. keyIn R b < keyIn R c) (entryAt m R F k)) k (λ i n a h u. all-entry m R F (λ c. keyOf (R i n) i < keyIn R c) k (λ i' n' a' h' e. omega arith)))
 
-  pub log-ascending : Ascending keyIn (globalLog m R F)
+  pub log-ascending : Ascending (keyIn R) (globalLog m R F)
   unfolding globalLog
   log-ascending = ascending-to (barOf m R F)

@@ -6,12 +6,13 @@ use lib.Dec.{eqb, ltb}
 use mathlib.Core.Bool.{Bool, false, true}
 use mathlib.Core.List.{List, [], _++_, _∷_, append-assoc, append-nil, map}
 use mathlib.Core.Path.{_∙_, _≡_, ap, ap₂, refl, sym}
-use native.Mathlib.Decide.{decLt}
+use native.Mathlib.Decide.{decLt, ℕ-discrete}
 use native.Mathlib.Nat.{le-refl}
+use native.Mathlib.Numerals.{add-one}
 use native.Mathlib.Omega.{arith}
-use Rattle.ordering.proofs.Laws.{ceiling-none, ceiling-some, log-more}
-use Rattle.ordering.specs.Order.{Ref, barOf, ceilingOf, entryAt, globalLog, keyOf, logTo, refOf, seek}
-use Rattle.ordering.specs.Table.{Ordered, blockId, refIn}
+use Rattle.ordering.proofs.Laws.{ceiling-none, ceiling-some, last-next, log-more}
+use Rattle.ordering.specs.Order.{Ref, barOf, ceilingOf, entryAt, globalLog, keyOf, lastOf, logTo, refOf, seek}
+use Rattle.ordering.specs.Table.{Climbs, Ordered, blockId, refIn}
 use Rattle.sums.proofs.SeqLaws.{all-append, all-map}
 use Rattle.sums.specs.Seq.{All, Begins, only, onlyIf}
 use Rattle.sums.proofs.LeastLaws.{le-least, least-found, least-le, least-le-start}
@@ -27,31 +28,41 @@ ascends-le f b up p q h l = elim (decLt p q) [ yes s ↦ omega (arith, up p q s 
 pub ascends-place : (f : ℕ → ℕ) (b : ℕ) → Ascends f b → (p q : ℕ) → p < b → q < b → f p ≡ f q → p ≡ q
 ascends-place f b up p q h l e = elim (decLt p q) [ yes s ↦ absurd (omega (arith, up p q s l)) | no s ↦ elim (decLt q p) [ yes v ↦ absurd (omega (arith, up q p v h)) | no v ↦ omega arith ] ]
 
+-- ranks that are each above the last before rise, and are all above 0
+pub climbs-ascends : (f : ℕ → ℕ) (b : ℕ) → Climbs f b → Ascends f b
+climbs-ascends f b up p zero h l = absurd (omega arith)
+climbs-ascends f b up p (suc q) h l =
+    let next : f q < f (suc q) = omega (arith, up (suc q) l, last-next f q, ap (lastOf f) (add-one q)) in
+    elim (ℕ-discrete p q) [ yes e ↦ omega (arith, ap f e) | no e ↦ omega (arith, climbs-ascends f b up p q (omega arith) (omega arith)) ]
+
+pub climbs-above : (f : ℕ → ℕ) (b : ℕ) → Climbs f b → (n : ℕ) → n < b → 0 < f n
+climbs-above f b up n l = omega (arith, up n l)
+
 -- ---- the bar, as the document states it
 
 module _ (m : ℕ) (R : ℕ → ℕ → ℕ) (F : ℕ → ℕ) where
-  -- some instance has no block
-  pub bar-empty : (j : ℕ) → j < m → F j ≡ 0 → barOf m R F ≡ 0
+  -- an instance without a block counts as having last rank 0: the bar is at most (1, that instance)
+  pub bar-empty : (j : ℕ) → j < m → F j ≡ 0 → barOf m R F ≤ keyOf 1 j
   bar-empty j l e =
-      let z = ceiling-none R F j (F j) refl (omega arith) in
+      let z = ceiling-none R F j (omega arith) in
       let w = least-le (ceilingOf R F 0) (ceilingOf R F) m j l in
       omega arith
 
-  -- the bar is at most each instance's last block's key and 16
-  pub bar-le : (j : ℕ) → j < m → 0 < F j → barOf m R F ≤ keyOf (R j (F j - 1)) j + 16
+  -- the bar is at most (last rank + 1, instance) of each instance
+  pub bar-le : (j : ℕ) → j < m → 0 < F j → barOf m R F ≤ keyOf (R j (F j - 1) + 1) j
   bar-le j l h =
-      let z = ceiling-some R F j (F j) (R j (F j - 1)) (keyOf (R j (F j - 1)) j) refl h refl refl in
+      let z = ceiling-some R F j h in
       let w = least-le (ceilingOf R F 0) (ceilingOf R F) m j l in
       omega arith
 
   -- and it is that of some instance
-  pub bar-is : 0 < m → ((j : ℕ) → j < m → 0 < F j) → (j : ℕ) × (j < m) × (barOf m R F ≡ keyOf (R j (F j - 1)) j + 16)
-  bar-is h g = go (decLt (barOf m R F) (ceilingOf R F 0))
+  pub bar-is : 0 < m → (j : ℕ) × (j < m) × (barOf m R F ≡ keyOf (lastOf (R j) (F j) + 1) j)
+  bar-is h = go (decLt (barOf m R F) (ceilingOf R F 0))
     where
-      at : (j : ℕ) → j < m → barOf m R F ≡ ceilingOf R F j → (j : ℕ) × (j < m) × (barOf m R F ≡ keyOf (R j (F j - 1)) j + 16)
-      at j l e = (j, l, e ∙ sym (ceiling-some R F j (F j) (R j (F j - 1)) (keyOf (R j (F j - 1)) j) refl (g j l) refl refl))
+      at : (j : ℕ) → j < m → barOf m R F ≡ ceilingOf R F j → (j : ℕ) × (j < m) × (barOf m R F ≡ keyOf (lastOf (R j) (F j) + 1) j)
+      at j l e = (j, l, omega arith)
 
-      go : Dec (barOf m R F < ceilingOf R F 0) → (j : ℕ) × (j < m) × (barOf m R F ≡ keyOf (R j (F j - 1)) j + 16)
+      go : Dec (barOf m R F < ceilingOf R F 0) → (j : ℕ) × (j < m) × (barOf m R F ≡ keyOf (lastOf (R j) (F j) + 1) j)
       go (yes l) = let w = least-found (ceilingOf R F 0) (ceilingOf R F) m l in at (w .0) (w .1) (w .2)
       go (no l) = let w = least-le-start (ceilingOf R F 0) (ceilingOf R F) m in at 0 h (omega arith)
 
@@ -82,7 +93,10 @@ log-from m R F lo hi h =
               ∙ sym (log-more m R F (lo + d)) ∙ ap (logTo m R F) e,
         )
 
-module _ (m : ℕ) (R : ℕ → ℕ → ℕ) (F G : ℕ → ℕ) (some : 0 < m) (grows : (j : ℕ) → j < m → F j ≤ G j) (asc : (j : ℕ) → j < m → Ascends (R j) (G j)) where
+module _ (m : ℕ) (R : ℕ → ℕ → ℕ) (F G : ℕ → ℕ) (some : 0 < m) (grows : (j : ℕ) → j < m → F j ≤ G j) (climbs : (j : ℕ) → j < m → Climbs (R j) (G j)) where
+  asc : (j : ℕ) → j < m → Ascends (R j) (G j)
+  asc j l = climbs-ascends (R j) (G j) (climbs j l)
+
   -- below the bar of the smaller view both have the same blocks
   entry-same : (x : ℕ) → x < barOf m R F → entryAt m R G x ≡ entryAt m R F x
   unfolding entryAt
@@ -93,7 +107,7 @@ module _ (m : ℕ) (R : ℕ → ℕ → ℕ) (F G : ℕ → ℕ) (some : 0 < m) 
           let w = bar-le m R F (x % 16) l p in
           let v = asc (x % 16) l (F (x % 16) - 1) k (omega arith) b in
           omega arith
-      absent l (no p) k a b e = let w = bar-empty m R F (x % 16) l (omega arith) in omega arith
+      absent l (no p) k a b e = let w = bar-empty m R F (x % 16) l (omega arith) in omega (arith, climbs-above (R (x % 16)) (G (x % 16)) (climbs (x % 16) l) k b)
 
       go : Dec (x % 16 < m)
           → onlyIf (ltb (x % 16) m) (map (refOf (x % 16)) (seek (R (x % 16)) (x / 16) (G (x % 16))))
@@ -119,7 +133,7 @@ module _ (m : ℕ) (R : ℕ → ℕ → ℕ) (F G : ℕ → ℕ) (some : 0 < m) 
           let g = grows j l in
           let w = bar-le m R F j l p in
           let v = ascends-le (R j) (G j) (asc j l) (F j - 1) (G j - 1) (omega arith) (omega arith) in
-          let z = ceiling-some R G j (G j) (R j (G j - 1)) (keyOf (R j (G j - 1)) j) refl (omega arith) refl refl in
+          let z = ceiling-some R G j (omega arith) in
           omega arith
       at j l (no p) = let w = bar-empty m R F j l (omega arith) in omega arith
 

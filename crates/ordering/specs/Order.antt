@@ -20,11 +20,16 @@ refOf i n = record { instance = i; index = n }
 abbrev pub keyOf : ℕ → ℕ → ℕ
 keyOf rank instance = rank * 16 + instance
 
--- what instance j allows: (its last rank + 1, j), or 0 where it has no block
-abbrev pub ceilingOf : (ℕ → ℕ → ℕ) → (ℕ → ℕ) → ℕ → ℕ
-ceilingOf R F j = pick (ltb 0 (F j)) (keyOf (R j (F j - 1)) j + 16) 0
+-- what the last of an instance's first n blocks has, 0 where there is none:
+-- "An instance without a block in the view now counts as having last rank 0" (request 04)
+abbrev pub lastOf : (ℕ → ℕ) → ℕ → ℕ
+lastOf f n = pick (ltb 0 n) (f (n - 1)) 0
 
--- the bar: the least of what the instances allow; 0, so that nothing is below it, where one has no block
+-- what instance j allows: (its last rank + 1, j)
+abbrev pub ceilingOf : (ℕ → ℕ → ℕ) → (ℕ → ℕ) → ℕ → ℕ
+ceilingOf R F j = keyOf (lastOf (R j) (F j) + 1) j
+
+-- the bar: the least of what the instances allow
 abbrev pub barOf : ℕ → (ℕ → ℕ → ℕ) → (ℕ → ℕ) → ℕ
 barOf m R F = leastFrom (ceilingOf R F 0) (ceilingOf R F) m
 

@@ -45,16 +45,15 @@ fn least(a: u64, b: u64) -> u64
     if a < b { a } else { b }
 }
 
-// What instance j allows below the bar.
+// What instance j allows: (its last rank + 1, j). Without a block its last rank counts as 0.
 fn ceiling(ranks: &[u32], full: [u16; 16], j: u16) -> u64
     ensures { λ r. ⌜ r ≡ ceilingOf (rankIn (now (ranks .entry))) (countIn full) j ⌝ }
 {
     let n = count_at(full, j);
-    if 0 < n {
-        key(rank_at(ranks, j, n - 1), j) + 16
-    } else {
-        0
+    if n == 0 {
+        return key(Rank(0), j) + 16;
     }
+    key(rank_at(ranks, j, n - 1), j) + 16
 }
 
 // The bar of a view.

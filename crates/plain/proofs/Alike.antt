@@ -11,6 +11,8 @@ use native.Mathlib.Decide.{ℕ-discrete}
 use native.Mathlib.Omega.{arith}
 use Rattle.escrow.proofs.Growth.{Extends}
 use Rattle.escrow.specs.Outcome.{History}
+use Rattle.ordering.proofs.Laws.{last-ext}
+use Rattle.ordering.specs.Order.{lastOf}
 use Rattle.plain.proofs.AnswerLaws.{firstTo-ext, refuse-pass, then-ext}
 use Rattle.plain.specs.Answer.{Answer, _then_, refuse}
 use Rattle.plain.specs.Plain.{answer, blockAnswer, citeAnswer, citedBefore, entryOff, frontAnswer, lastEntry, lastRank, lentAnswer, idleAnswer}
@@ -30,11 +32,8 @@ alike-extends S H H' a = record { longer = λ j l. omega (arith, a .heights j l)
 -- ---- the same answers
 
 -- what the block before says, 0 if none
-last-alike : {h h' : ℕ} (f g : ℕ → ℕ) → h ≡ h' → ((n : ℕ) → n < h → f n ≡ g n) → pick (eqb h 0) 0 (f (h - 1)) ≡ pick (eqb h' 0) 0 (g (h' - 1))
-last-alike {h} f g e same =
-    by-pick (λ (n : ℕ). n ≡ pick (eqb h 0) 0 (g (h - 1))) (eqb h 0) (λ t. sym (pick-true _ _ _ t))
-    (λ t. same (h - 1) (let z : h ≢ 0 = eqb-false h 0 t in omega (arith, z)) ∙ sym (pick-false _ _ _ t))
-    ∙ ap (λ (n : ℕ). pick (eqb n 0) 0 (g (n - 1))) e
+last-alike : {h h' : ℕ} (f g : ℕ → ℕ) → h ≡ h' → ((n : ℕ) → n < h → f n ≡ g n) → lastOf f h ≡ lastOf g h'
+last-alike {h} f g e same = last-ext f g h same ∙ ap (lastOf g) e
 
 module _ (S : Sheet) (H H' : History) (b : Values) (a : Alike (S .m) H H') (l : b .instance < S .m) where
   last-rank-alike : lastRank H (b .instance) ≡ lastRank H' (b .instance)

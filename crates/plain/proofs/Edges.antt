@@ -75,4 +75,11 @@ edges =
     & record { sound = refl; answered = refl; barred = refl; read = refl }
     & record { sound = refl; answered = refl; barred = refl; read = refl }
     & record { sound = refl; answered = refl; barred = refl; read = refl }
+    & record { sound = refl; answered = refl; barred = refl; read = refl }
+    & record { sound = refl; answered = refl; barred = refl; read = refl }
+    & record { sound = refl; answered = refl; barred = refl; read = refl }
+    & record { sound = refl; answered = refl; barred = refl; read = refl }
+    & record { sound = refl; answered = refl; barred = refl; read = refl }
+    & record { sound = refl; answered = refl; barred = refl; read = refl }
+    & record { sound = refl; answered = refl; barred = refl; read = refl }
     & tt

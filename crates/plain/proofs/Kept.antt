@@ -15,9 +15,10 @@ use Rattle.escrow.proofs.Outcomes.{ProperLogs}
 use Rattle.escrow.specs.Outcome.{History}
 use Rattle.plain.proofs.Admits.{Admits}
 use Rattle.plain.specs.Plain.{lastEntry, lastRank}
-use Rattle.ordering.proofs.Prefix.{Ascends, ascends-le}
+use Rattle.ordering.proofs.Laws.{last-ext, last-some}
 use Rattle.ordering.proofs.Usable.{usable-all}
-use Rattle.ordering.specs.Table.{prior, usable}
+use Rattle.ordering.specs.Order.{lastOf}
+use Rattle.ordering.specs.Table.{Climbs, usable}
 use Rattle.sums.proofs.SumLaws.{sum-add, sum-ext}
 use Rattle.sums.proofs.TestLaws.{by-pick, given-false, given-true, pick-false, pick-true, sum-one, sum-only}
 use Rattle.sums.specs.Sum.{sumTo}
@@ -31,8 +32,7 @@ use Rattle.settlement.specs.View.{noCite}
 
 pub record Kept (S : Sheet) (H : History) : Type 0 where
   pub short : (j : ℕ) → j < S .m → H .height j ≤ 128
-  pub ranked : (j n : ℕ) → j < S .m → n < H .height j → 0 < H .rank j n
-  pub asc : (j : ℕ) → j < S .m → Ascends (H .rank j) (H .height j)
+  pub climbs : (j : ℕ) → j < S .m → Climbs (H .rank j) (H .height j)
   pub cut-in : (j n e : ℕ) → j < S .m → n < H .height j → e < S .m → H .entry j n e ≤ H .height e
   pub cut-up : (j n n' e : ℕ) → j < S .m → n ≤ n' → n' < H .height j → e < S .m → H .entry j n e ≤ H .entry j n' e
   pub owned : (j p : ℕ) → j < S .m → p < H .height j * 32 → H .cell j p < txCount S → hasPart S (H .cell j p) j ≡ true
@@ -45,7 +45,7 @@ pub record Kept (S : Sheet) (H : History) : Type 0 where
 
 pub proper : (S : Sheet) (H : History) → Kept S H → ProperLogs S H
 proper S H K = record {
-  asc = K .asc;
+  climbs = K .climbs;
   cut-in = λ j n e l u k h. K .cut-in j n e l u k;
   cut-up = λ j n n' e l u w k h. K .cut-up j n n' e l u w k;
   once = λ x j t l. sum-one (H .height j * 32) (λ p. eqb (H .cell j p) x) (λ p. 1) (given (hasPart S x j) 1)
@@ -63,8 +63,7 @@ proper S H K = record {
 pub kept-fresh : (S : Sheet) (H : History) → ((j : ℕ) → j < S .m → H .height j ≡ 0) → Kept S H
 kept-fresh S H z = record {
   short = λ j l. omega (arith, z j l);
-  ranked = λ j n l u. absurd (omega (arith, z j l));
-  asc = λ j l n n' u w. absurd (omega (arith, z j l));
+  climbs = λ j l n u. absurd (omega (arith, z j l));
   cut-in = λ j n e l u k. absurd (omega (arith, z j l));
   cut-up = λ j n n' e l u w k. absurd (omega (arith, z j l));
   owned = λ j p l u. absurd (omega (arith, z j l));
@@ -77,29 +76,17 @@ kept-fresh S H z = record {
 
 -- on such logs all heights are usable
 pub usable-heights : (S : Sheet) (H : History) → Kept S H → (j : ℕ) → j < S .m → usable (H .rank) (H .height) j ≡ H .height j
-usable-heights S H K j l = usable-all (H .rank) (H .height) j (K .short j l) (λ n u. go n u (eq-zero-or-pos n))
-  where
-    go : (n : ℕ) → n < H .height j → ((n ≡ 0) ⊎ (0 < n)) → prior (H .rank j) n < H .rank j n
-    go n u (inl e) = omega (arith, pick-false (ltb 0 n) (H .rank j (n - 1)) 0 (le-ltb 0 n (omega arith)), K .ranked j n l u)
-    go n u (inr h) = omega (arith, pick-true (ltb 0 n) (H .rank j (n - 1)) 0 (lt-ltb 0 n h), K .asc j l (n - 1) n (omega arith) u)
+usable-heights S H K j l = usable-all (H .rank) (H .height) j (K .short j l) (K .climbs j l)
 
 module _ (S : Sheet) (few : txCount S ≤ 1024) (H H' : History) (b : Values) (K : Kept S H) (A : Admits S H b) (G : Grown (S .m) b H H') where
   up : (j : ℕ) → j < S .m → H .height j ≤ H' .height j
   up j l = elim (ℕ-discrete j (b .instance)) [ yes q ↦ rw q (omega (arith, G .more)) | no h ↦ omega (arith, G .others j l h) ]
 
-  last-rank : (n : ℕ) → n < H .height (b .instance) → H .rank (b .instance) n ≤ lastRank H (b .instance)
-  unfolding lastRank
-  last-rank n l =
-      by-pick (λ (r : ℕ). H .rank (b .instance) n ≤ r) (eqb (H .height (b .instance)) 0)
-      (λ e. absurd (omega (arith, eqb-true (H .height (b .instance)) 0 e)))
-      (λ e. ascends-le (H .rank (b .instance)) (H .height (b .instance)) (K .asc (b .instance) (A .there)) n (H .height (b .instance) - 1) (omega arith) (omega arith))
-
   last-entry : (n e : ℕ) → n < H .height (b .instance) → e < S .m → H .entry (b .instance) n e ≤ lastEntry H (b .instance) e
   unfolding lastEntry
   last-entry n e l k =
-      by-pick (λ (r : ℕ). H .entry (b .instance) n e ≤ r) (eqb (H .height (b .instance)) 0)
-      (λ q. absurd (omega (arith, eqb-true (H .height (b .instance)) 0 q)))
-      (λ q. K .cut-up (b .instance) n (H .height (b .instance) - 1) e (A .there) (omega arith) (omega arith) k)
+      omega (arith, last-some (λ n. H .entry (b .instance) n e) (H .height (b .instance)) (omega arith),
+      K .cut-up (b .instance) n (H .height (b .instance) - 1) e (A .there) (omega arith) (omega arith) k)
 
   -- a citation that names a transaction stands below the count
   cite-there : (q : ℕ) → getD (b .cites) q noCite < txCount S → q < length (b .cites)
@@ -108,22 +95,17 @@ module _ (S : Sheet) (few : txCount S ≤ 1024) (H H' : History) (b : Values) (K
   new-short : (j : ℕ) → j < S .m → H' .height j ≤ 128
   new-short j l = elim (ℕ-discrete j (b .instance)) [ yes q ↦ omega (arith, ap (H' .height) q, G .more, A .room) | no h ↦ omega (arith, G .others j l h, K .short j l) ]
 
-  new-ranked : (j n : ℕ) → j < S .m → n < H' .height j → 0 < H' .rank j n
-  new-ranked j n l u = go (split G j n l u)
+  new-climbs : (j : ℕ) → j < S .m → Climbs (H' .rank j) (H' .height j)
+  unfolding lastRank
+  new-climbs j l n u = go (split G j n l u)
     where
-      go : Which b H j n → 0 < H' .rank j n
-      go (inl h) = omega (arith, G .old-rank j n l h, K .ranked j n l h)
-      go (inr h) = omega (arith, new-rank G (h .0) (h .1), A .above)
+      old : n ≤ H .height j → lastOf (H' .rank j) n ≡ lastOf (H .rank j) n
+      old h = last-ext (H' .rank j) (H .rank j) n (λ k v. G .old-rank j k l (omega arith))
 
-  new-asc : (j : ℕ) → j < S .m → Ascends (H' .rank j) (H' .height j)
-  new-asc j l n n' u w = go (split G j n' l w)
-    where
-      go : Which b H j n' → H' .rank j n < H' .rank j n'
-      go (inl h) = omega (arith, K .asc j l n n' u h, G .old-rank j n l (omega arith), G .old-rank j n' l h)
+      go : Which b H j n → lastOf (H' .rank j) n < H' .rank j n
+      go (inl h) = omega (arith, old (omega arith), K .climbs j l n h, G .old-rank j n l h)
       go (inr h) =
-          let e : H .height j ≡ H .height (b .instance) = ap (H .height) (h .0) in
-          let r : H .rank j n ≡ H .rank (b .instance) n = ap (λ (i : ℕ). H .rank i n) (h .0) in
-          omega (arith, last-rank n (omega arith), A .above, G .old-rank j n l (omega arith), new-rank G (h .0) (h .1))
+          omega (arith, old (omega (arith, ap (H .height) (h .0), h .1)), ap₂ (λ (i k : ℕ). lastOf (H .rank i) k) (h .0) (h .1), A .above, new-rank G (h .0) (h .1))
 
   new-cut-in : (j n e : ℕ) → j < S .m → n < H' .height j → e < S .m → H' .entry j n e ≤ H' .height e
   new-cut-in j n e l u k = go (split G j n l u)
@@ -242,8 +224,7 @@ module _ (S : Sheet) (few : txCount S ≤ 1024) (H H' : History) (b : Values) (K
   pub kept-more : Kept S H'
   kept-more = record {
     short = new-short;
-    ranked = new-ranked;
-    asc = new-asc;
+    climbs = new-climbs;
     cut-in = new-cut-in;
     cut-up = new-cut-up;
     owned = new-owned;

@@ -113,9 +113,13 @@ firstOnly = order 2 (blk 0 1 1 0 0 [] ∷ blk 1 1 2 0 0 [] ∷ []) (yes 2) (keyO
 abbrev pub alone : Row
 alone = order 1 (blk 0 1 1 0 0 [] ∷ blk 0 2 2 1 0 [] ∷ blk 0 3 7 2 0 [] ∷ []) (yes 3) (keyOf 8 0) (refOf 0 0 ∷ refOf 0 1 ∷ refOf 0 2 ∷ [])
 
--- "no block in one of two: log empty"
+-- "With instance 0 at rank 1 and instance 1 empty the bar is (1, 1) and the block is in the log" (request 04; it replaces the edge "no block in one of two")
 abbrev pub silent : Row
-silent = order 2 (blk 0 1 1 0 0 [] ∷ []) (yes 1) 0 []
+silent = order 2 (blk 0 1 1 0 0 [] ∷ []) (yes 1) (keyOf 1 1) (refOf 0 0 ∷ [])
+
+-- "A view with no blocks at all still has an empty log" (request 04)
+abbrev pub nothing : Row
+nothing = order 2 [] [] (keyOf 1 0) []
 
 -- ---- one instance, a payment of 5 from account 0, which starts with n: "free 5 pays a debit of 5", "free 4 fails it"
 
@@ -141,7 +145,7 @@ above = runsOps (works (op 2 0 4294967295 ∷ []) ∷ works (op 3 0 1 ∷ []) �
 
 abbrev pub marked : List Row
 marked =
-    whole ∷ cutShort ∷ three ∷ firstOnly ∷ alone ∷ silent
+    whole ∷ cutShort ∷ three ∷ firstOnly ∷ alone ∷ silent ∷ nothing
     ∷ pays 5 paid (0 ∷ 5 ∷ [])
     ∷ pays 4 returned (4 ∷ 0 ∷ [])
     ∷ below ∷ above ∷ []

@@ -2,7 +2,7 @@
 -- Assumes nothing.
 use Prim.Native.Nat.{_-_, ℕ}
 use mathlib.Core.List.{List, [], _++_, _∷_}
-use Rattle.ordering.specs.Order.{keyOf, refOf}
+use Rattle.ordering.specs.Order.{Ref, keyOf, refOf}
 use Rattle.plain.specs.Answer.{accepted, refused}
 use Rattle.plain.specs.Edges.{Row, blk, contract, cutReport, ent, marked, op, order, pay, reads, row, runsOps, sheetOf, wholeReport, wholeSheet, works, yes}
 use Rattle.plain.specs.Logs.{Values}
@@ -17,11 +17,12 @@ use Rattle.sheets.specs.Sheet.{Sheet}
 abbrev pub otherWay : Row
 otherWay = row wholeSheet (blk 0 1 2 0 0 (0 ∷ 1 ∷ []) ∷ blk 1 1 1 0 0 (0 ∷ []) ∷ []) (yes 2) (keyOf 2 1) cutReport
 
--- two instances, of which one has no block; a contract over 5 from account 0, which starts with n. It waits for its place in the log:
+-- two instances, of which one has no block, so that a block of rank 2 is not below the bar; a contract over 5 from account 0, which starts with n. It waits
+-- for its place in the log:
 -- "Counting a contract's credit when its parts are good though it has not run" (n 7); "Returning a contract as soon as a part fails", and a failed part reserves nothing (n 4)
 abbrev pub waits : ℕ → ℕ → ℕ → Row
 waits n f h = row (sheetOf 2 0 (n ∷ 0 ∷ []) (contract (ent 0 5 ∷ []) (ent 1 5 ∷ []) [] ∷ []))
-    (blk 0 1 1 0 0 (0 ∷ []) ∷ []) (yes 1) 0
+    (blk 0 1 2 0 0 (0 ∷ []) ∷ []) (yes 1) (keyOf 1 1)
     (reads [] (pending ∷ []) (f ∷ 0 ∷ []) (h ∷ 0 ∷ []) [] 0)
 
 -- a contract of which one part is good and one failed. While the second's block is not below the bar it is open, and the good part is held
@@ -40,7 +41,7 @@ ended = row doomedSheet (blk 0 1 1 0 0 (0 ∷ []) ∷ blk 1 1 2 0 0 (0 ∷ []) �
 -- a part of two debits, the first covered and the second not: it fails, and reserves nothing on either account
 abbrev pub partly : Row
 partly = row (sheetOf 2 0 (1 ∷ 0 ∷ 4 ∷ []) (contract (ent 0 1 ∷ ent 2 5 ∷ []) (ent 1 6 ∷ []) [] ∷ []))
-    (blk 0 1 1 0 0 (0 ∷ []) ∷ []) (yes 1) 0
+    (blk 0 1 2 0 0 (0 ∷ []) ∷ []) (yes 1) (keyOf 1 1)
     (reads [] (pending ∷ []) (1 ∷ 0 ∷ 4 ∷ []) (0 ∷ 0 ∷ 0 ∷ []) [] 0)
 
 -- ---- views
@@ -52,11 +53,20 @@ unfinished = row (sheetOf 1 0 (5 ∷ 0 ∷ []) (contract (ent 0 5 ∷ []) (ent 1
     (blk 0 1 1 0 0 (0 ∷ 1 ∷ []) ∷ blk 0 2 2 1 0 (2 ∷ []) ∷ []) (yes 2) (keyOf 3 0)
     (reads (refOf 0 0 ∷ refOf 0 1 ∷ []) (paid ∷ returned ∷ paid ∷ []) (5 ∷ 0 ∷ []) (0 ∷ 0 ∷ []) [] 1000)
 
--- "the view of a first block holds no block of its own instance": instance 1 spends the contract's credit in its first block in vain, in its second not
+-- "the view of a first block holds no block of its own instance", which then counts as having last rank 0. A contract in a block of rank r pays 5 to account 1,
+-- and instance 1 spends them in its first block and again in its second. At rank 2 the contract is not in the log of the first block's view, so that the
+-- second is paid; at rank 1 it is ("Logs, printed or in a cut's view", request 04)
+abbrev pub spends : ℕ → ℕ → List Ref → Status → Status → Row
+spends r b l s s' = row
+    (sheetOf 2 0 (5 ∷ 0 ∷ []) (contract (ent 0 5 ∷ []) (ent 1 5 ∷ []) [] ∷ pay (ent 1 5 ∷ []) (ent 0 5 ∷ []) ∷ pay (ent 1 5 ∷ []) (ent 0 5 ∷ []) ∷ []))
+    (blk 0 1 r 0 0 (0 ∷ []) ∷ blk 1 1 1 1 0 (1 ∷ []) ∷ blk 1 2 2 1 1 (2 ∷ []) ∷ []) (yes 3) b
+    (reads l (paid ∷ s ∷ s' ∷ []) (5 ∷ 0 ∷ []) (0 ∷ 0 ∷ []) [] 1000)
+
 abbrev pub firstView : Row
-firstView = row (sheetOf 2 0 (5 ∷ 0 ∷ []) (contract (ent 0 5 ∷ []) (ent 1 5 ∷ []) [] ∷ pay (ent 1 5 ∷ []) (ent 0 5 ∷ []) ∷ pay (ent 1 5 ∷ []) (ent 0 5 ∷ []) ∷ []))
-    (blk 0 1 1 0 0 (0 ∷ []) ∷ blk 1 1 1 1 0 (1 ∷ []) ∷ blk 1 2 2 1 1 (2 ∷ []) ∷ []) (yes 3) (keyOf 2 0)
-    (reads (refOf 0 0 ∷ refOf 1 0 ∷ []) (paid ∷ returned ∷ paid ∷ []) (5 ∷ 0 ∷ []) (0 ∷ 0 ∷ []) [] 1000)
+firstView = spends 2 (keyOf 3 0) (refOf 1 0 ∷ refOf 0 0 ∷ refOf 1 1 ∷ []) returned paid
+
+abbrev pub firstSees : Row
+firstSees = spends 1 (keyOf 2 0) (refOf 0 0 ∷ refOf 1 0 ∷ []) paid returned
 
 -- a view holds whole blocks of the others: the credit of the second block of instance 1 counts under the cut 0 2
 abbrev pub twoSeen : Row
@@ -73,8 +83,8 @@ spentOnce = row (sheetOf 1 0 (9 ∷ 0 ∷ []) (pay (ent 0 5 ∷ []) (ent 1 5 ∷
 -- a payment that lacks a part reserves all the same
 abbrev pub heldBack : Row
 heldBack = row (sheetOf 2 0 (9 ∷ 5 ∷ []) (pay (ent 0 5 ∷ ent 1 5 ∷ []) (ent 0 10 ∷ []) ∷ pay (ent 0 5 ∷ []) (ent 1 5 ∷ []) ∷ []))
-    (blk 0 1 1 0 0 (0 ∷ 1 ∷ []) ∷ []) (yes 1) 0
-    (reads [] (pending ∷ returned ∷ []) (4 ∷ 5 ∷ []) (5 ∷ 0 ∷ []) [] 500)
+    (blk 0 1 1 0 0 (0 ∷ 1 ∷ []) ∷ []) (yes 1) (keyOf 1 1)
+    (reads (refOf 0 0 ∷ []) (pending ∷ returned ∷ []) (4 ∷ 5 ∷ []) (5 ∷ 0 ∷ []) [] 500)
 
 -- what a payment reserved is free again in the views that hold its failed part, and only in those: the second block of instance 0 does not see it, the third does. Each block is judged by its own cut
 abbrev pub freed : Row
@@ -104,13 +114,37 @@ sixteen = order 16 (tabulate 16 (λ i. blk (15 - i) 1 1 0 0 [])) (yes 16) (keyOf
 abbrev pub byRank : Row
 byRank = order 2 (blk 0 1 3 0 0 [] ∷ blk 1 1 1 0 0 [] ∷ blk 1 2 2 0 1 [] ∷ []) (yes 3) (keyOf 3 1) (refOf 1 0 ∷ refOf 1 1 ∷ refOf 0 0 ∷ [])
 
+-- ---- an instance without a block (request 04): the bar is (1, the lowest such instance)
+
+-- instance 0 of two: nothing is in the log
+abbrev pub firstEmpty : Row
+firstEmpty = order 2 (blk 1 1 1 0 0 [] ∷ []) (yes 1) (keyOf 1 0) []
+
+-- the middle one of three: of two blocks of rank 1 the lower instance's is in the log
+abbrev pub middleEmpty : Row
+middleEmpty = order 3 (blk 2 1 1 0 0 [] ∷ blk 0 1 1 0 0 [] ∷ []) (yes 2) (keyOf 1 1) (refOf 0 0 ∷ [])
+
+-- the last of three: both blocks of rank 1 are, the one of rank 2 is not
+abbrev pub lastEmpty : Row
+lastEmpty = order 3 (blk 1 1 1 0 0 [] ∷ blk 0 1 1 0 0 [] ∷ blk 0 2 2 1 0 [] ∷ []) (yes 3) (keyOf 1 2) (refOf 0 0 ∷ refOf 1 0 ∷ [])
+
+-- instance 1 starts late, at rank 1: its block comes after the one that is logged, and before one that had waited for it
+abbrev pub early : List Values
+early = blk 0 1 1 0 0 [] ∷ blk 0 2 2 1 0 [] ∷ blk 2 1 3 0 0 [] ∷ []
+
+abbrev pub notStarted : Row
+notStarted = order 3 early (yes 3) (keyOf 1 1) (refOf 0 0 ∷ [])
+
+abbrev pub startsLate : Row
+startsLate = order 3 (early ++ (blk 1 1 1 0 0 [] ∷ [])) (yes 4) (keyOf 2 1) (refOf 0 0 ∷ refOf 1 0 ∷ refOf 0 1 ∷ [])
+
 -- ---- settlement of payments
 
 -- a part that failed returns the payment though the other part was never cited; a good part without the other is held. "share" is 500
 abbrev pub missing : Row
 missing = row (sheetOf 2 0 (4 ∷ 1 ∷ 3 ∷ []) (pay (ent 0 5 ∷ ent 1 1 ∷ []) (ent 2 6 ∷ []) ∷ pay (ent 2 1 ∷ ent 1 1 ∷ []) (ent 0 2 ∷ []) ∷ []))
-    (blk 0 1 1 0 0 (0 ∷ 1 ∷ []) ∷ []) (yes 1) 0
-    (reads [] (returned ∷ pending ∷ []) (4 ∷ 1 ∷ 2 ∷ []) (0 ∷ 0 ∷ 1 ∷ []) [] 500)
+    (blk 0 1 1 0 0 (0 ∷ 1 ∷ []) ∷ []) (yes 1) (keyOf 1 1)
+    (reads (refOf 0 0 ∷ []) (returned ∷ pending ∷ []) (4 ∷ 1 ∷ 2 ∷ []) (0 ∷ 0 ∷ 1 ∷ []) [] 500)
 
 -- the good part of a returned payment is given back
 abbrev pub givenBack : Row
@@ -119,8 +153,8 @@ givenBack = row (sheetOf 2 0 (5 ∷ 4 ∷ []) (pay (ent 0 5 ∷ ent 1 5 ∷ []) 
 
 -- two debits in one instance are one part, booked by one citation
 abbrev pub onePart : Row
-onePart = row (sheetOf 2 0 (1 ∷ 0 ∷ 2 ∷ []) (pay (ent 0 1 ∷ ent 2 2 ∷ []) (ent 1 3 ∷ []) ∷ [])) (blk 0 1 1 0 0 (0 ∷ []) ∷ []) (yes 1) 0
-    (reads [] (paid ∷ []) (0 ∷ 3 ∷ 0 ∷ []) (0 ∷ 0 ∷ 0 ∷ []) [] 1000)
+onePart = row (sheetOf 2 0 (1 ∷ 0 ∷ 2 ∷ []) (pay (ent 0 1 ∷ ent 2 2 ∷ []) (ent 1 3 ∷ []) ∷ [])) (blk 0 1 1 0 0 (0 ∷ []) ∷ []) (yes 1) (keyOf 1 1)
+    (reads (refOf 0 0 ∷ []) (paid ∷ []) (0 ∷ 3 ∷ 0 ∷ []) (0 ∷ 0 ∷ 0 ∷ []) [] 1000)
 
 -- an account pays itself: judged before its own credit, 6 out of 5 fails and 5 is paid. Two of three settled: the share 666 is rounded down
 abbrev pub selfPaid : Row
@@ -190,10 +224,12 @@ wholeShort = record { instance = 1; number = 1; rank = 1; cut = 0 ∷ 0 ∷ []; 
 abbrev pub further : List Row
 further =
     otherWay ∷ waits 7 2 5 ∷ waits 4 4 0 ∷ doomed ∷ ended ∷ partly
-    ∷ unfinished ∷ firstView ∷ twoSeen ∷ spentOnce ∷ heldBack ∷ freed ∷ notClosed
+    ∷ unfinished ∷ firstView ∷ firstSees ∷ twoSeen ∷ spentOnce ∷ heldBack ∷ freed ∷ notClosed
     ∷ chain 5 paid (0 ∷ 5 ∷ 0 ∷ [])
     ∷ chain 4 returned (4 ∷ 0 ∷ 0 ∷ [])
-    ∷ sixteen ∷ byRank ∷ missing ∷ givenBack ∷ onePart ∷ selfPaid ∷ runsLast ∷ logOrder ∷ secondBlock ∷ tests ∷ sees ∷ undone ∷ resent ∷ asFrames ∷ []
+    ∷ sixteen ∷ byRank
+    ∷ firstEmpty ∷ middleEmpty ∷ lastEmpty ∷ notStarted ∷ startsLate
+    ∷ missing ∷ givenBack ∷ onePart ∷ selfPaid ∷ runsLast ∷ logOrder ∷ secondBlock ∷ tests ∷ sees ∷ undone ∷ resent ∷ asFrames ∷ []
 
 abbrev pub table : List Row
 table = marked ++ further

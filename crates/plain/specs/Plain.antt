@@ -6,6 +6,7 @@ use lib.ListN.{getD, length}
 use mathlib.Core.Bool.{Bool, not, true}
 use mathlib.Core.List.{List, [], _∷_, foldl}
 use Rattle.escrow.specs.Outcome.{History}
+use Rattle.ordering.specs.Order.{lastOf}
 use Rattle.plain.specs.Answer.{Answer, _then_, accepted, firstTo, isAccepted, noOffer, refuse, refused}
 use Rattle.plain.specs.Logs.{Logs, Values, appended, blockFrom, emptyLogs, historyOf}
 use Rattle.plain.specs.Offers.{Offer, Parsed, block, frame, lentOf, offerNeeds, offered, parse, values, wrong}
@@ -42,11 +43,11 @@ frontAnswer S (frame lent bytes at) = parsedAnswer (parse S bytes at)
 
 -- "the instance's last rank (0 if none)"
 unfoldable pub lastRank : History → ℕ → ℕ
-lastRank H i = pick (eqb (H .height i) 0) 0 (H .rank i (H .height i - 1))
+lastRank H i = lastOf (H .rank i) (H .height i)
 
 -- entry e of the instance's block before, 0 if none
 unfoldable pub lastEntry : History → ℕ → ℕ → ℕ
-lastEntry H i e = pick (eqb (H .height i) 0) 0 (H .entry i (H .height i - 1) e)
+lastEntry H i e = lastOf (λ n. H .entry i n e) (H .height i)
 
 -- 11: "own entry is not sequence number − 1, or an entry is below that of the instance's block before"
 unfoldable pub entryOff : History → Values → ℕ → Bool

@@ -9,7 +9,8 @@ use mathlib.Core.Logic.{_≢_}
 use mathlib.Core.Path.{_∙_, _≡_, ap, refl, sym}
 use native.Mathlib.Nat.{one-mul}
 use native.Mathlib.Omega.{arith}
-use Rattle.ordering.proofs.Prefix.{Ascends, log-begins}
+use Rattle.ordering.proofs.Prefix.{log-begins}
+use Rattle.ordering.specs.Table.{Climbs}
 use Rattle.settlement.proofs.ContractLaws.{eventSum, paid-all, paid-ne-open, settled-stays}
 use Rattle.settlement.proofs.ViewOnly.{log-le-view, logEvents-append}
 use Rattle.settlement.specs.Contracts.{Status, emptyBook, paid, pending, runAll}
@@ -94,12 +95,12 @@ paid-whole S small R v once x =
 
 module _ (S : Sheet) (some : 0 < S .m) (R : Rows) (v v' : View)
     (grown : (j : ℕ) → j < S .m → v j ≤ v' j)
-    (asc : (j : ℕ) → j < S .m → Ascends (R .rank j) (v' j / 32))
+    (climbs : (j : ℕ) → j < S .m → Climbs (R .rank j) (v' j / 32))
     (once : Once S R v') where
   -- the log of the smaller view is a beginning of the larger one's
   pub viewLog-begins : Begins (viewLog S R v) (viewLog S R v')
   unfolding viewLog
-  viewLog-begins = log-begins (S .m) (R .rank) (λ j. v j / 32) (λ j. v' j / 32) some (λ j l. omega (arith, grown j l)) asc
+  viewLog-begins = log-begins (S .m) (R .rank) (λ j. v j / 32) (λ j. v' j / 32) some (λ j l. omega (arith, grown j l)) climbs
 
   contract-keeps : (x : ℕ) → contracts S R v .status x ≢ pending → contracts S R v' .status x ≡ contracts S R v .status x
   unfolding contracts

@@ -12,7 +12,8 @@ use Rattle.escrow.specs.Outcome.{rowsOf}
 use Rattle.state.specs.Cells.{Cells, heightsIn, pastIn, storedIn}
 use Rattle.plain.proofs.Engine.{Grown, rowsBy}
 use Rattle.ordering.proofs.Usable.{climb-le, usable-more, usable-other}
-use Rattle.ordering.specs.Table.{countIn, prior, rankIn}
+use Rattle.ordering.specs.Order.{lastOf}
+use Rattle.ordering.specs.Table.{countIn, rankIn}
 use Rattle.sums.proofs.SeqLaws.{written-at, written-out}
 use Rattle.state.proofs.Engine.{Roomy, engineIn}
 use Rattle.plain.specs.Logs.{Values}
@@ -29,7 +30,7 @@ pub heights-most : (C : Cells) (j : ℕ) → heightsIn C j ≤ 128
 heights-most C j = omega (arith, climb-le (rankIn (C .ranks) j) (min (countIn (C .heights) j) 128))
 
 module _ (m : ℕ) (small : m ≤ 16) (C : Cells) (room : Roomy m C) (b : Values) (there : b .instance < m)
-    (space : heightsIn C (b .instance) < 128) (above : prior (rankIn (C .ranks) (b .instance)) (heightsIn C (b .instance)) < b .rank) where
+    (space : heightsIn C (b .instance) < 128) (above : lastOf (rankIn (C .ranks) (b .instance)) (heightsIn C (b .instance)) < b .rank) where
   abbrev i : ℕ
   i = b .instance
 

@@ -21,7 +21,8 @@ use Rattle.state.specs.Cells.{cellsOffered, Cells, heightsIn, pastIn, st
 use Rattle.plain.proofs.Engine.{Answered, Grown, Taken, offer}
 use Rattle.plain.specs.Plain.{answer, lastRank}
 use Rattle.ordering.proofs.Usable.{climb-zero}
-use Rattle.ordering.specs.Table.{climb, countIn, prior, rankIn}
+use Rattle.ordering.specs.Order.{lastOf}
+use Rattle.ordering.specs.Table.{climb, countIn, rankIn}
 use Rattle.sums.proofs.TestLaws.{pick-false, pick-true}
 use Rattle.state.proofs.Engine.{Roomy, engineIn}
 use Rattle.plain.specs.Offers.{Offer, offered}
@@ -29,12 +30,9 @@ use Rattle.sheets.proofs.ProperLaws.{ProperSheet}
 use Rattle.sheets.specs.Sheet.{Sheet}
 
 -- the last rank, as the table of ranks has it
-pub last-prior : (C : Cells) (i : ℕ) → lastRank (engineIn C .past) i ≡ prior (rankIn (C .ranks) i) (heightsIn C i)
+pub last-in : (C : Cells) (i : ℕ) → lastRank (engineIn C .past) i ≡ lastOf (rankIn (C .ranks) i) (heightsIn C i)
 unfolding lastRank pastIn historyIn
-last-prior C i = elim (ℕ-discrete (heightsIn C i) 0) [
-  | yes e ↦ pick-true _ _ _ (eq-eqb (heightsIn C i) 0 e) ∙ sym (pick-false _ _ _ (le-ltb 0 (heightsIn C i) (omega arith)))
-  | no e ↦ pick-false _ _ _ (ne-eqb (heightsIn C i) 0 e) ∙ sym (pick-true _ _ _ (lt-ltb 0 (heightsIn C i) (omega arith)))
-]
+last-in C i = refl
 
 height-in : (C : Cells) (j : ℕ) → engineIn C .past .height j ≡ heightsIn C j
 unfolding pastIn historyIn
@@ -51,7 +49,7 @@ module _ (S : Sheet) (Q : ProperSheet S) (C : Cells) (room : Roomy (S .m) C) (o 
   space = omega (arith, A .room, height-in C (offered S o .instance))
 
   G : Grown (S .m) (offered S o) (engineIn C .past) (engineIn (storedIn (offered S o) C) .past)
-  G = store-grown (S .m) (Q .small) C room (offered S o) (A .there) space (omega (arith, A .above, last-prior C (offered S o .instance)))
+  G = store-grown (S .m) (Q .small) C room (offered S o) (A .there) space (omega (arith, A .above, last-in C (offered S o .instance)))
 
   good-room : 4096 * S .m ≤ length (storedIn (offered S o) C .good)
   unfolding storedIn

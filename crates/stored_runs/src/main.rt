@@ -143,7 +143,9 @@ fn main() {
     let none = Tally { runs: 0, agree: 0 };
     let edges = group(b"edges", none);
     let rules = group(b"rules", edges);
-    let cut_off = group(b"cut_off", rules);
+    let empty = group(b"empty", rules);
+    let empty_views = group(b"empty_views", empty);
+    let cut_off = group(b"cut_off", empty_views);
     let sheets = group(b"sheets", cut_off);
     let slips = group(b"slips", sheets);
     let blocks = group(b"blocks", slips);

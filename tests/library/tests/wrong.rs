@@ -41,6 +41,21 @@ enum Fault {
     SpendsHeld,
     /// Is wrong at the last place that a bound allows.
     AtTheLast(Last),
+    /// Is wrong where an instance has delivered nothing.
+    WhereEmpty(Empty),
+}
+
+/// Where an instance has no block, document 01 had an empty log; request 04
+/// replaced that. With every rank one higher the ledger that is read still has
+/// it: beside an empty instance e nothing but rank 1 is below the bar, (1, e).
+#[derive(Clone, Copy, Debug, PartialEq)]
+enum Empty {
+    /// All logs follow document 01.
+    Everywhere,
+    /// The printed log alone follows request 04.
+    NotInPrint,
+    /// The printed log alone follows document 01.
+    InPrint,
 }
 
 const FAULTS: [Fault; 12] = [
@@ -57,6 +72,11 @@ const FAULTS: [Fault; 12] = [
     Fault::ReadsEarly,
     Fault::SpendsHeld,
 ];
+
+/// One rank higher; near the end of their range ranks are left alone.
+fn raised(rank: u32) -> u32 {
+    rank + u32::from(rank < 1 << 31)
+}
 
 /// The library with a fault: `judge` answers, `books` is read.
 struct Wrong {
@@ -77,16 +97,29 @@ impl Wrong {
         Wrong { fault, judge, books, accepted: 0, arrivals: Vec::new(), sheet }
     }
 
-    /// An offer to both ledgers, the block with a fault at the last place.
-    fn offer_at_the_last(&mut self, fault: Last, block: Option<Block>, answer: Offer) -> Offer {
+    /// An offer to both ledgers, the block with a fault at the last place, or
+    /// with a higher rank.
+    fn offer_changed(&mut self, block: Option<Block>, answer: Offer) -> Offer {
         let Some(block) = block else {
             return answer;
         };
         if answer == Offer::Accepted {
-            let booked = Subject::offer_values(&mut self.books, &self.sheet.booked(fault, &block));
+            let booked = match self.fault {
+                Fault::AtTheLast(fault) => self.sheet.booked(fault, &block),
+                _ => Block { rank: raised(block.rank), ..block.clone() },
+            };
+            let booked = Subject::offer_values(&mut self.books, &booked);
             assert_eq!(booked, Offer::Accepted, "a fault is not to be turned away");
         }
-        last::answer(fault, &block, answer)
+        match self.fault {
+            Fault::AtTheLast(fault) => last::answer(fault, &block, answer),
+            _ => answer,
+        }
+    }
+
+    /// Whether blocks are changed before they are booked.
+    fn changes_blocks(&self) -> bool {
+        matches!(self.fault, Fault::AtTheLast(_) | Fault::WhereEmpty(_))
     }
 
     /// An offer to both ledgers, as far as the fault lets it.
@@ -154,21 +187,21 @@ impl Subject for Wrong {
     }
 
     fn offer_slip(&mut self, bytes: &[u8], at: usize) -> Offer {
-        if let Fault::AtTheLast(fault) = self.fault {
+        if self.changes_blocks() {
             let m = self.judge.sizes().map_or(0, |sizes| sizes.instances);
             let slip = slip_at(bytes, at).ok().filter(|slip| slip.kind == 4);
             let block = slip.and_then(|slip| format::block(slip.body, m));
             let answer = self.judge.offer_frame(bytes, at);
-            return self.offer_at_the_last(fault, block, answer);
+            return self.offer_changed(block, answer);
         }
         self.offer(|ledger| ledger.offer_frame(bytes, at), false)
     }
 
     fn offer_values(&mut self, block: &Block) -> Offer {
         let values = |ledger: &mut Ledger| Subject::offer_values(ledger, block);
-        if let Fault::AtTheLast(fault) = self.fault {
+        if self.changes_blocks() {
             let answer = values(&mut self.judge);
-            return self.offer_at_the_last(fault, Some(block.clone()), answer);
+            return self.offer_changed(Some(block.clone()), answer);
         }
         self.offer(values, true)
     }
@@ -190,6 +223,10 @@ impl Subject for Wrong {
                     readings.accounts.map(|list| list.into_iter().map(spend).collect());
             }
             Fault::AtTheLast(fault) => self.sheet.readings(fault, &mut readings),
+            Fault::WhereEmpty(Empty::NotInPrint) => readings.log = self.judge.readings().log,
+            Fault::WhereEmpty(Empty::InPrint) => {
+                readings = Readings { log: readings.log, ..self.judge.readings() };
+            }
             _ => {}
         }
         readings
@@ -215,6 +252,11 @@ fn assert_found(faults: impl IntoIterator<Item = Fault>) {
 #[test]
 fn each_fault_is_found() {
     assert_found(FAULTS);
+}
+
+#[test]
+fn each_fault_about_empty_instances_is_found() {
+    assert_found([Empty::Everywhere, Empty::NotInPrint, Empty::InPrint].map(Fault::WhereEmpty));
 }
 
 #[test]

@@ -4,7 +4,7 @@ use super::{block, case, contract, payment, run, sheet, worked_blocks, worked_sh
 use super::{Case, WORKED_TEXT};
 use crate::engine::Block;
 
-/// "Edges", in the order of the paper.
+/// "Edges", in the order of the paper, one of them replaced by request 04.
 pub fn edges() -> Vec<Case> {
     let worked = worked_sheet();
     let unseen = [block(1, 1, 1, &[0, 0], &[0]), block(0, 1, 2, &[0, 0], &[0, 1])];
@@ -45,8 +45,14 @@ pub fn edges() -> Vec<Case> {
             run(&none(1), &[block(0, 1, 4, &[0], &[]), block(0, 2, 9, &[1], &[])]),
             "run 1 1 0 0\nok 0 1\nok 0 2\nlog 0 1\nlog 0 2\naccount 0 0 0\nshare 1000\n",
         ),
+        // Request 04 "replaces … the edge 'no block in one of two'".
         case(
-            "no block in one of two: log empty",
+            "no block in instance 1 of two: bar (1, 1)",
+            run(&none(2), &[block(0, 1, 1, &[0, 0], &[])]),
+            "run 2 1 0 0\nok 0 1\nlog 0 1\naccount 0 0 0\nshare 1000\n",
+        ),
+        case(
+            "no block in instance 0 of two: bar (1, 0)",
             run(&none(2), &[block(1, 1, 1, &[0, 0], &[])]),
             "run 2 1 0 0\nok 1 1\naccount 0 0 0\nshare 1000\n",
         ),

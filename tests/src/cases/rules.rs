@@ -29,7 +29,8 @@ pub fn rules() -> Vec<Case> {
         case(
             "a payment with a failed part is returned at once",
             run(&payment_fails, &two[..1]),
-            "run 2 2 0 1\nok 0 1\ntx 0 returned\naccount 0 0 0\naccount 1 5 0\nshare 1000\n",
+            "run 2 2 0 1\nok 0 1\nlog 0 1\ntx 0 returned\naccount 0 0 0\naccount 1 5 0\n\
+             share 1000\n",
         ),
         case(
             "a payment with a part not yet cited is open",
@@ -66,7 +67,6 @@ pub fn rules() -> Vec<Case> {
         open_view(),
         contract_in_a_view(),
         contract_outside_a_view(),
-        first_block_sees_no_contract(),
         citation_order(),
         large_amounts(),
         highest_rank(),
@@ -234,27 +234,6 @@ fn contract_outside_a_view() -> Case {
         "a contract outside a view",
         run(&sheet(2, 0, &[1, 0], &transactions), &blocks),
         "run 2 2 0 3\nok 0 1\nok 1 1\nok 1 2\nok 1 3\nlog 0 1\nlog 1 1\ntx 0 paid\n\
-         tx 1 returned\n\
-         tx 2 paid\naccount 0 1 0\naccount 1 0 0\nshare 1000\n",
-    )
-}
-
-/// "so the view of a first block holds no block of its own instance": its log
-/// is empty and the contract open there. In the view of the second block the
-/// bar is (3, 0) and the contract is paid.
-fn first_block_sees_no_contract() -> Case {
-    let back = payment(&[(1, 1)], &[(0, 1)]);
-    let transactions = [contract(&[(0, 1)], &[(1, 1)], &[]), back.clone(), back];
-    let blocks = [
-        block(0, 1, 1, &[0, 0], &[0]),
-        block(0, 2, 2, &[1, 0], &[]),
-        block(1, 1, 3, &[2, 0], &[1]),
-        block(1, 2, 4, &[2, 1], &[2]),
-    ];
-    case(
-        "the view of a first block has an empty log",
-        run(&sheet(2, 0, &[1, 0], &transactions), &blocks),
-        "run 2 2 0 3\nok 0 1\nok 0 2\nok 1 1\nok 1 2\nlog 0 1\nlog 0 2\ntx 0 paid\n\
          tx 1 returned\n\
          tx 2 paid\naccount 0 1 0\naccount 1 0 0\nshare 1000\n",
     )

@@ -1,4 +1,5 @@
-//! "Rules of the ledger", paragraph by paragraph.
+//! "Rules of the ledger", paragraph by paragraph, with request 04 of document
+//! 02 in the place of the rule that it replaces.
 //!
 //! Everything is worked out anew for each view. The one thing kept is the
 //! outcome of a part, because "The outcome is never changed".
@@ -173,12 +174,15 @@ fn key_of(block: &Block) -> u64 {
     key(block.rank.into(), block.instance)
 }
 
-/// The global log of a view. The unfinished block of a citation's view
-/// "counts neither for the bar nor for the log".
+/// "The log is every block of the view below the bar, ascending." The
+/// unfinished block of a citation's view "counts neither for the bar nor for
+/// the log".
+///
+/// Request 04: "Logs, printed or in a cut's view, follow it from here", so
+/// there is one rule for every view. "A view with no blocks at all still has
+/// an empty log": there is no block to be below the bar.
 pub fn global_log<'a>(logs: &'a Logs, view: &View) -> Vec<&'a Block> {
-    let Some(bar) = bar(logs, view) else {
-        return Vec::new();
-    };
+    let bar = bar(logs, view);
     let mut log = view.blocks(logs);
     log.retain(|block| key_of(block) < bar);
     log.sort_by_key(|block| key_of(block));
@@ -186,14 +190,19 @@ pub fn global_log<'a>(logs: &'a Logs, view: &View) -> Vec<&'a Block> {
 }
 
 /// "take each instance's last block, and of these the least by (rank,
-/// instance): the bar is (that rank + 1, that instance)". `None` "If some
-/// instance has no block in the view".
-fn bar(logs: &Logs, view: &View) -> Option<u64> {
-    let instances = 0..logs.instances();
-    let last: Option<Vec<&Block>> =
-        instances.map(|instance| view.blocks_of(logs, instance).last()).collect();
-    let least = last?.into_iter().min_by_key(|block| key_of(block))?;
-    Some(key(u64::from(least.rank) + 1, least.instance))
+/// instance): the bar is (that rank + 1, that instance)".
+fn bar(logs: &Logs, view: &View) -> u64 {
+    let instances = (0..16).take(logs.instances());
+    let last = instances.map(|instance| (last_rank(logs, view, instance), instance));
+    let least = last.min_by_key(|(rank, instance)| key(*rank, *instance));
+    let (rank, instance) = least.expect("a head has at least one instance");
+    key(rank + 1, instance)
+}
+
+/// The rank of an instance's last block in a view. Request 04: "An instance
+/// without a block in the view now counts as having last rank 0."
+fn last_rank(logs: &Logs, view: &View, instance: u16) -> u64 {
+    view.blocks_of(logs, instance.into()).last().map_or(0, |block| block.rank.into())
 }
 
 // ------------------------------------- Settlement and amounts in a view

@@ -1,143 +1,10 @@
 //! Deliveries: the blocks of a run, in the order in which they are offered.
 
+use super::pace::{Cuts, Pace, Ranks};
 use super::random::Random;
 use super::spoil;
-use super::Size;
 use crate::engine::ledger::{MOST_BLOCKS, MOST_CITATIONS};
 use crate::engine::{write, Block, Cut, Logs, Sheet};
-
-/// The habits of one delivery.
-#[derive(Clone, Debug)]
-pub struct Pace {
-    /// How many blocks are offered.
-    offers: usize,
-    /// How many bytes they may take.
-    budget: usize,
-    /// Offers meant to be turned away, in percent.
-    noise: u64,
-    /// How often each instance has its turn; 0 if it never delivers.
-    weights: Vec<u64>,
-    /// An instance that delivers nothing before so many blocks of the others.
-    late: Option<(usize, usize)>,
-    /// How often the same instance goes on, in percent.
-    bursts: u64,
-    ranks: Ranks,
-    cuts: Cuts,
-    /// Blocks without citations, in percent.
-    empty: u64,
-    most_citations: u64,
-    /// How often citations follow the order of the sheet, in percent.
-    in_order: u64,
-    /// Parts that are never cited, in percent.
-    forgotten: u64,
-}
-
-/// How ranks grow.
-#[derive(Clone, Copy, Debug)]
-enum Ranks {
-    /// One more than the last of the instance: ties everywhere.
-    Steps,
-    /// The next multiple of four: ties with gaps.
-    Coarse,
-    /// Above every rank in the block's cut, as a leader would choose it.
-    AboveCut,
-    Jumps,
-    /// From just below 2^32 − 1 on, until it is reached.
-    Top,
-}
-
-/// How much of the others a block has seen.
-#[derive(Clone, Copy, Debug)]
-enum Cuts {
-    /// Everything accepted so far.
-    Exact,
-    /// Anything between the block before and everything.
-    Lagging,
-    /// As little as possible.
-    Still,
-    /// Each entry in its own way.
-    Mixed,
-}
-
-impl Pace {
-    pub fn random(
-        random: &mut Random,
-        sheet: &Sheet,
-        size: Size,
-        budget: usize,
-        noise: u64,
-    ) -> Pace {
-        let fill = sheet.instances() * MOST_BLOCKS;
-        let most = match size {
-            Size::Tiny => 12,
-            Size::Small if random.chance(6) => (fill + 8).min(400),
-            Size::Small => 60,
-            Size::Medium => 300,
-            Size::Large | Size::Largest => fill + 8,
-        };
-        let offers = match size {
-            // Every instance gets its 128 blocks.
-            Size::Largest => fill * 200 / (100 - noise.min(90)) as usize,
-            _ => random.within(0..=most as u64) as usize,
-        };
-        let ranks = [Ranks::Steps, Ranks::Coarse, Ranks::AboveCut, Ranks::Jumps, Ranks::Top];
-        let cuts = [Cuts::Exact, Cuts::Exact, Cuts::Lagging, Cuts::Still, Cuts::Mixed];
-        Pace {
-            offers,
-            budget,
-            noise,
-            weights: weights(random, sheet, size),
-            late: late(random, sheet, offers).filter(|_| size != Size::Largest),
-            bursts: random.pick(&[0, 0, 60, 90]),
-            ranks: random.pick(if size == Size::Largest { &ranks[..4] } else { &ranks }),
-            cuts: random.pick(&cuts),
-            empty: random.pick(&[0, 10, 40]),
-            most_citations: random.pick(&[1, 3, 8, 32]),
-            in_order: random.pick(&[0, 80, 100]),
-            forgotten: random.pick(&[0, 0, 5, 30]),
-        }
-    }
-
-    /// For a delivery whose citations are given: mostly each block has seen
-    /// all that is there, and comes after it.
-    pub fn thorough(random: &mut Random, sheet: &Sheet) -> Pace {
-        let above = Ranks::AboveCut;
-        let exact = Cuts::Exact;
-        Pace {
-            offers: usize::MAX,
-            budget: usize::MAX,
-            noise: 0,
-            weights: vec![1; sheet.instances()],
-            late: None,
-            bursts: 0,
-            ranks: random.pick(&[above, above, above, above, Ranks::Steps, Ranks::Coarse]),
-            cuts: random.pick(&[exact, exact, exact, exact, Cuts::Lagging, Cuts::Mixed]),
-            empty: 0,
-            most_citations: MOST_CITATIONS as u64,
-            in_order: 100,
-            forgotten: 0,
-        }
-    }
-}
-
-/// Mostly all alike; sometimes a straggler, sometimes silent instances.
-fn weights(random: &mut Random, sheet: &Sheet, size: Size) -> Vec<u64> {
-    let mut weights = vec![20; sheet.instances()];
-    let habit = if size == Size::Largest { 0 } else { random.below(10) };
-    match habit {
-        0..7 => {}
-        7..9 => weights[random.place(sheet.instances())] = 1,
-        _ => weights.iter_mut().for_each(|weight| *weight *= random.below(2)),
-    }
-    weights
-}
-
-/// Now and then a latecomer.
-fn late(random: &mut Random, sheet: &Sheet, offers: usize) -> Option<(usize, usize)> {
-    let instance = random.place(sheet.instances());
-    let after = random.place(offers / 2 + 1);
-    (sheet.instances() > 1 && random.chance(15)).then_some((instance, after))
-}
 
 /// The blocks of a run. Those that are not noise are all accepted.
 pub fn offers(random: &mut Random, sheet: &Sheet, pace: &Pace) -> Vec<Block> {
@@ -184,17 +51,28 @@ impl<'a> Delivery<'a> {
     fn next(&mut self, random: &mut Random) -> Option<Block> {
         let wants_noise = random.chance(self.pace.noise);
         match self.turn(random) {
-            Some(instance) if wants_noise => {
-                let block = self.block(random, instance);
-                Some(spoil::spoil(random, self.sheet, &self.logs, block))
-            }
+            Some(instance) if wants_noise => Some(self.spoiled(random, instance)),
             Some(instance) => Some(self.block(random, instance)),
-            None if self.pace.noise > 0 => {
-                let block = self.block(random, self.last);
-                Some(spoil::spoil(random, self.sheet, &self.logs, block))
-            }
+            None if self.pace.noise > 0 => Some(self.spoiled(random, self.last)),
             None => None,
         }
+    }
+
+    /// A block with faults: of a given instance, or at times of one that is to
+    /// stay silent, and then in any case one that is turned away.
+    fn spoiled(&self, random: &mut Random, instance: usize) -> Block {
+        let silent = &self.pace.silent;
+        if silent.is_empty() || random.chance(60) {
+            let block = self.block(random, instance);
+            return spoil::spoil(random, self.sheet, &self.logs, block);
+        }
+        let instance = random.pick(silent);
+        let block = self.block(random, instance);
+        let mut block = spoil::spoil(random, self.sheet, &self.logs, block);
+        if self.logs.judge(self.sheet, &block).is_ok() {
+            block.rank = 0;
+        }
+        block
     }
 
     /// Keeps account of an offer.
@@ -211,6 +89,9 @@ impl<'a> Delivery<'a> {
     /// Whose turn it is, among those that can have another block.
     fn turn(&self, random: &mut Random) -> Option<usize> {
         let blocks = self.logs.all().count();
+        if let Some(instance) = self.pace.opening.get(blocks) {
+            return Some(*instance);
+        }
         let can = |instance: usize| {
             let log = self.logs.of(instance);
             let waits =
@@ -274,6 +155,8 @@ impl<'a> Delivery<'a> {
             Ranks::Coarse => next.checked_next_multiple_of(4).unwrap_or(next),
             Ranks::AboveCut => seen.map_or(next, |seen| seen.saturating_add(1).max(next)),
             Ranks::Jumps => next.saturating_add(more * more),
+            Ranks::Low if last.is_none() => 1 + u32::from(more < 8) + u32::from(more < 3),
+            Ranks::Low => next.saturating_add(more / 25),
             Ranks::Top if last.is_none() => u32::MAX - more,
             Ranks::Top => next.saturating_add(more / 25),
         }

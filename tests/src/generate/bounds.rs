@@ -11,7 +11,8 @@
 pub mod faults;
 pub mod sheet;
 
-use super::blocks::{Delivery, Pace};
+use super::blocks::Delivery;
+use super::pace::Pace;
 use super::random::Random;
 use super::Run;
 use crate::engine::ledger::{MOST_BLOCKS, MOST_CITATIONS};

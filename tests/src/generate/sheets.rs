@@ -66,7 +66,13 @@ impl Taste {
 
 /// A complete sheet of a size.
 pub fn sheet(random: &mut Random, size: Size) -> Sheet {
-    let mut head = head(random, size);
+    let head = head(random, size);
+    with_head(random, size, head)
+}
+
+/// The same with a head that is given; t may come out lower, where the bytes
+/// do not suffice.
+pub fn with_head(random: &mut Random, size: Size, mut head: Head) -> Sheet {
     let taste = Taste::random(random, &head);
     let starts = (0..head.a).map(|_| start(random, taste.balances)).collect();
     let mut sheet = Sheet { head, starts, transactions: Vec::new() };
@@ -83,7 +89,7 @@ pub fn sheet(random: &mut Random, size: Size) -> Sheet {
     sheet
 }
 
-fn head(random: &mut Random, size: Size) -> Head {
+pub fn head(random: &mut Random, size: Size) -> Head {
     let (m, a, g, t) = match size {
         Size::Tiny => (1..=3, 1..=5, 0..=2, 0..=6),
         Size::Small => (1..=5, 1..=16, 0..=4, 0..=40),

@@ -180,11 +180,9 @@ impl Sheet {
         let key = |rank: u64, instance: u16| rank * 16 + u64::from(instance);
         let of = |block: &Block| key(block.rank.into(), block.instance);
         let asked = if fault == Last::NotInTheBar { m.min(INSTANCE) } else { m };
-        let last =
-            |i: u16| self.blocks.iter().filter(|block| block.instance == i).max_by_key(|b| of(b));
-        let lasts: Option<Vec<&Block>> = (0..asked).map(last).collect();
-        let least = lasts.unwrap_or_default().into_iter().min_by_key(|block| of(block));
-        let bar = least.map_or(0, |block| key(u64::from(block.rank) + 1, block.instance));
+        let of_instance = |i: u16| self.blocks.iter().filter(move |block| block.instance == i);
+        let last = |i: u16| of_instance(i).map(|block| block.rank).max().unwrap_or(0);
+        let bar = (0..asked).map(|i| key(u64::from(last(i)) + 1, i)).min().unwrap_or(0);
         let mut log: Vec<&Block> = self.blocks.iter().filter(|block| of(block) < bar).collect();
         log.sort_by_key(|block| match (fault, block.instance) {
             (Last::BehindTheNext, INSTANCE) => 2 * key(u64::from(block.rank) + 1, 0) + 1,
