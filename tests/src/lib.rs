@@ -1,9 +1,10 @@
 //! Crosscheck: the second engine, and the runs to try an engine with.
 //!
 //! The engine here reads a recorded run straight from the text of the scope
-//! paper ("document 01") and shares no code with the proved library. It is
-//! kept plain on purpose: whoever doubts a reading should be able to hold a
-//! file of this package beside the paper and follow both.
+//! paper ("document 01"), as the requests of document 02 have changed it, and
+//! shares no code with the proved library. It is kept plain on purpose: whoever
+//! doubts a reading should be able to hold a file of this package beside the
+//! papers and follow both.
 //!
 //! * [`engine`] — the second engine: slips, sheet, plain ledger, rules, text.
 //! * [`generate`] — seeded runs of every size, sound, noisy and damaged.

@@ -20,7 +20,6 @@ use Rattle.plain.specs.Answer.{Answer, _then_, accepted, firstTo, refuse, refus
 use Rattle.plain.specs.Logs.{Values}
 use Rattle.plain.specs.Offers.{values}
 use Rattle.plain.specs.Plain.{blockAnswer, citeAnswer, citedBefore, entryOff, frontAnswer, lastEntry, lastRank, unusedSet, valuesAnswer}
-use Rattle.sums.proofs.TestLaws.{pick-false, pick-true}
 use Rattle.sheets.specs.declared.sheet.Sizes.{Sizes}
 use Rattle.admission.specs.declared.citations.Citations.{Citations}
 use Rattle.sheets.specs.Sheet.{Sheet, sheetFrom}

@@ -2,8 +2,8 @@
 -- A frame after which the output goes on is a block of at least 16 bytes, so that a run of 65,536 bytes has at most 4,096 of them, and one more that ends it.
 -- Assumes nothing.
 use Prim.Native.Nat.{_*_, _+_, _-_, _<_, _≤_, suc, zero, ℕ}
-use borrow.Author.Tests.{eqb-false, le-leb, leb-false, lt-leb, ltb-false, ltb-true}
-use lib.Dec.{eqb, leb, ltb}
+use borrow.Author.Tests.{le-leb, leb-false, lt-leb, ltb-false, ltb-true}
+use lib.Dec.{leb, ltb}
 use lib.ListN.{drop, length, length-append, length-take}
 use mathlib.Core.Bool.{Bool, false, true}
 use mathlib.Core.List.{List, [], _++_}

@@ -8,7 +8,7 @@ use mathlib.Core.Path.{_∙_, _≡_, ap, ap₂, refl, sym}
 use native.Mathlib.Decide.{decLt}
 use native.Mathlib.Omega.{arith}
 use Rattle.ordering.proofs.Laws.{ceiling-none, ceiling-some}
-use Rattle.ordering.specs.Order.{barOf, ceilingOf, entryAt, globalLog, keyOf, logTo, refOf, seek}
+use Rattle.ordering.specs.Order.{barOf, ceilingOf, entryAt, globalLog, logTo, refOf, seek}
 use Rattle.sums.specs.Seq.{only, onlyIf}
 use Rattle.sums.specs.Least.{leastFrom}
 

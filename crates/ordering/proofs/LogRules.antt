@@ -2,7 +2,7 @@
 -- Assumes nothing.
 use Prim.Native.Nat.{_%_, _-_, _<_, _≤_, min, ℕ}
 use mathlib.Core.List.{[], _++_, _∷_, map}
-use mathlib.Core.Path.{_∙_, _≡_, ap, ap₂, refl}
+use mathlib.Core.Path.{_∙_, _≡_, ap, ap₂}
 use native.Mathlib.Decide.{ℕ-discrete}
 use native.Mathlib.Omega.{arith}
 use Rattle.ordering.proofs.Laws.{ceiling-none, ceiling-some, entry-none, log-more, log-quiet, seek-one}
@@ -12,7 +12,7 @@ use Rattle.ordering.proofs.Prefix.{all-log, bar-empty, bar-is, climbs-a
 use Rattle.ordering.proofs.Usable.{climb-climbs, usable-grows}
 use Rattle.ordering.proofs.Whole.{log-empty}
 use Rattle.ordering.specs.Claim.{LogOf, LogRules}
-use Rattle.ordering.specs.Order.{barOf, ceilingOf, entryAt, globalLog, keyOf, logTo, refOf}
+use Rattle.ordering.specs.Order.{barOf, ceilingOf, entryAt, globalLog, logTo, refOf}
 use Rattle.ordering.specs.Table.{Climbs}
 use Rattle.sums.proofs.LeastLaws.{least-le}
 use Rattle.sums.specs.Least.{leastFrom}

@@ -165,7 +165,7 @@ pub fn usable_counts(ranks: &[u32], full: [u16; 16]) -> [u16; 16]
     counts
 }
 
-// The global log of any table: nothing is asked of the caller.
+// The global log of any table: nothing is asked of the caller. A block of rank 0, which no ledger keeps, is not usable, nor is what follows it.
 pub fn view_log(m: u16, ranks: &[u32], full: [u16; 16], out: &mut [u16]) -> usize
     ensures { λ r. ⌜ (r ≡ length (globalLog m (rankIn (now (ranks .entry))) (usable (rankIn (now (ranks .entry))) (countIn full))))
         × (now (out .exit)

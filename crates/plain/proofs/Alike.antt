@@ -1,11 +1,11 @@
 -- Two histories that are alike as far as the heights go: they grow alike, and get the same answers.
 -- Assumes nothing.
 use Prim.Native.Nat.{_*_, _+_, _-_, _/_, _<_, ℕ}
-use borrow.Author.Tests.{eqb-false, leb-false}
+use borrow.Author.Tests.{leb-false}
 use lib.Dec.{eqb, leb, ltb}
 use lib.ListN.{getD, length}
 use mathlib.Core.Bool.{Bool, not, true}
-use mathlib.Core.Logic.{_≢_, inl, inr}
+use mathlib.Core.Logic.{inl, inr}
 use mathlib.Core.Path.{_∙_, _≡_, ap, refl, sym}
 use native.Mathlib.Decide.{ℕ-discrete}
 use native.Mathlib.Omega.{arith}
@@ -16,7 +16,7 @@ use Rattle.ordering.specs.Order.{lastOf}
 use Rattle.plain.proofs.AnswerLaws.{firstTo-ext, refuse-pass, then-ext}
 use Rattle.plain.specs.Answer.{Answer, _then_, refuse}
 use Rattle.plain.specs.Plain.{answer, blockAnswer, citeAnswer, citedBefore, entryOff, frontAnswer, lastEntry, lastRank, lentAnswer, idleAnswer}
-use Rattle.sums.proofs.TestLaws.{anyTo-ext, by-pick, pick-false, pick-true}
+use Rattle.sums.proofs.TestLaws.{anyTo-ext}
 use Rattle.sums.specs.Test.{anyTo, both, pick}
 use Rattle.plain.proofs.Engine.{Alike, Grown}
 use Rattle.plain.proofs.GrownLaws.{Which, new-cell, new-entry, new-rank, split}

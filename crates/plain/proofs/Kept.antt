@@ -1,14 +1,14 @@
 -- The invariant of the ledger's logs, and that a taken block keeps it.
 -- Assumes nothing.
 use Prim.Native.Nat.{_%_, _*_, _+_, _-_, _/_, _<_, _≤_, ℕ}
-use borrow.Author.Tests.{eq-eqb, eqb-true, le-ltb, lt-ltb, ne-eqb}
-use lib.Dec.{eqb, ltb}
+use borrow.Author.Tests.{eq-eqb, eqb-true, lt-ltb, ne-eqb}
+use lib.Dec.{eqb}
 use lib.ListN.{List·getD-eq-default, getD, length}
 use mathlib.Core.Bool.{true}
 use mathlib.Core.Logic.{_≢_, _⊎_, inl, inr}
 use mathlib.Core.Path.{_∙_, _≡_, ap, ap₂, refl, sym}
 use native.Mathlib.Decide.{decLt, ℕ-discrete}
-use native.Mathlib.Nat.{add-zero, eq-or-lt-of-le, eq-zero-or-pos}
+use native.Mathlib.Nat.{add-zero, eq-or-lt-of-le}
 use native.Mathlib.Omega.{arith}
 use Rattle.escrow.proofs.Growth.{Extends}
 use Rattle.escrow.proofs.Outcomes.{ProperLogs}
@@ -85,8 +85,11 @@ module _ (S : Sheet) (few : txCount S ≤ 1024) (H H' : History) (b : Values) (K
   last-entry : (n e : ℕ) → n < H .height (b .instance) → e < S .m → H .entry (b .instance) n e ≤ lastEntry H (b .instance) e
   unfolding lastEntry
   last-entry n e l k =
-      omega (arith, last-some (λ n. H .entry (b .instance) n e) (H .height (b .instance)) (omega arith),
-      K .cut-up (b .instance) n (H .height (b .instance) - 1) e (A .there) (omega arith) (omega arith) k)
+      omega (
+        arith,
+        last-some (λ n. H .entry (b .instance) n e) (H .height (b .instance)) (omega arith),
+        K .cut-up (b .instance) n (H .height (b .instance) - 1) e (A .there) (omega arith) (omega arith) k,
+      )
 
   -- a citation that names a transaction stands below the count
   cite-there : (q : ℕ) → getD (b .cites) q noCite < txCount S → q < length (b .cites)

@@ -1,7 +1,6 @@
 -- Cells that an offer leaves as `cellsOffered` says stand for an engine that keeps to its contract.
 -- Assumes nothing.
 use Prim.Native.Nat.{_*_, _+_, _-_, _/_, _<_, _≤_, min, ℕ}
-use borrow.Author.Tests.{eq-eqb, le-ltb, lt-ltb, ne-eqb}
 use lib.ListN.{length}
 use mathlib.Core.List.{List}
 use mathlib.Core.Logic.{_≢_}
