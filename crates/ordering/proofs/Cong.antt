@@ -1,14 +1,14 @@
 -- The log depends on the ranks of the view's blocks alone.
 -- Assumes nothing.
-use Prim.Native.Nat.{_%_, _-_, _/_, _<_, min, suc, zero, ℕ}
+use Prim.Native.Nat.{_%_, _+_, _/_, _<_, min, suc, zero, ℕ}
 use borrow.Author.Tests.{le-ltb}
 use lib.Dec.{eqb, ltb}
 use mathlib.Core.List.{List, _++_, map}
-use mathlib.Core.Path.{_∙_, _≡_, ap, ap₂, refl, sym}
+use mathlib.Core.Path.{_∙_, _≡_, ap, ap₂, refl}
 use native.Mathlib.Decide.{decLt}
 use native.Mathlib.Omega.{arith}
-use Rattle.ordering.proofs.Laws.{ceiling-none, ceiling-some}
-use Rattle.ordering.specs.Order.{barOf, ceilingOf, entryAt, globalLog, logTo, refOf, seek}
+use Rattle.ordering.proofs.Laws.{last-ext}
+use Rattle.ordering.specs.Order.{barOf, ceilingOf, entryAt, globalLog, keyOf, lastOf, logTo, refOf, seek}
 use Rattle.sums.specs.Seq.{only, onlyIf}
 use Rattle.sums.specs.Least.{leastFrom}
 
@@ -24,18 +24,7 @@ least-cong b c f g (suc n) e h = ap₂ min (least-cong b c f g n e (λ j l. h j 
 
 module _ (m : ℕ) (R S : ℕ → ℕ → ℕ) (F G : ℕ → ℕ) (counts : (j : ℕ) → j < m → F j ≡ G j) (ranks : (j n : ℕ) → j < m → n < F j → R j n ≡ S j n) where
   ceiling-cong : (j : ℕ) → j < m → ceilingOf R F j ≡ ceilingOf S G j
-  ceiling-cong j l = go (decLt 0 (F j))
-    where
-      go : Dec (0 < F j) → ceilingOf R F j ≡ ceilingOf S G j
-      go (yes h) =
-          let e = counts j l in
-          let r = ranks j (F j - 1) l (omega arith) ∙ ap (λ (x : ℕ). S j (x - 1)) e in
-          let a = ceiling-some R F j h in
-          let b = ceiling-some S G j (omega arith) in
-          omega arith
-      go (no h) =
-          let e = counts j l in
-          ceiling-none R F j (omega arith) ∙ sym (ceiling-none S G j (omega arith))
+  ceiling-cong j l = ap (λ (r : ℕ). keyOf (r + 1) j) (last-ext (R j) (S j) (F j) (λ n u. ranks j n l u) ∙ ap (lastOf (S j)) (counts j l))
 
   entry-cong : (x : ℕ) → entryAt m R F x ≡ entryAt m S G x
   unfolding entryAt

@@ -5,29 +5,32 @@ use mathlib.Core.List.{[], _++_, _∷_, map}
 use mathlib.Core.Path.{_∙_, _≡_, ap, ap₂}
 use native.Mathlib.Decide.{ℕ-discrete}
 use native.Mathlib.Omega.{arith}
-use Rattle.ordering.proofs.Laws.{ceiling-none, ceiling-some, entry-none, log-more, log-quiet, seek-one}
+use Rattle.ordering.proofs.Laws.{ceiling-none, ceiling-some, entry-none, last-none, log-more, log-quiet, seek-one}
 use Rattle.ordering.proofs.Log.{log-ascending, log-once}
 use Rattle.ordering.proofs.LogSum.{log-size}
-use Rattle.ordering.proofs.Prefix.{all-log, bar-empty, bar-is, climbs-above, climbs-ascends, log-begins}
+use Rattle.ordering.proofs.Prefix.{all-log, bar-is, bar-le, climbs-ascends, log-begins}
 use Rattle.ordering.proofs.Usable.{climb-climbs, usable-grows}
 use Rattle.ordering.proofs.Whole.{log-empty}
 use Rattle.ordering.specs.Claim.{LogOf, LogRules}
-use Rattle.ordering.specs.Order.{barOf, ceilingOf, entryAt, globalLog, logTo, refOf}
+use Rattle.ordering.specs.Order.{barOf, entryAt, globalLog, logTo, refOf}
 use Rattle.ordering.specs.Table.{Climbs}
-use Rattle.sums.proofs.LeastLaws.{least-le}
 use Rattle.sums.specs.Least.{leastFrom}
 
 views : (m : ℕ) (R : ℕ → ℕ → ℕ) (F : ℕ → ℕ) → 0 < m → m ≤ 16 → ((j : ℕ) → j < m → Climbs (R j) (F j)) → LogOf m R F
 views m R F some small up = record {
   bar-some = bar-is m R F some;
-  bar-least = least-le (ceilingOf R F 0) (ceilingOf R F) m;
+  bar-least = bar-le m R F;
   below = all-log m R F _ (λ i n l u h. (l, u, h));
   once = log-once m small R F;
   ascending = log-ascending m R F (λ j l. climbs-ascends (R j) (F j) (up j l));
   size = log-size m small R F;
   nothing = log-empty m R F;
   silent = λ e l z. all-log m R F _
-      (λ i n a u h. let w = bar-empty m R F e l z in let r = climbs-above (R i) (F i) (up i a) n u in (omega arith, omega arith));
+      (λ i n a u h.
+      let w = bar-le m R F e l in
+      let none = last-none (R e) (F e) (omega arith) in
+      let above = up i a n u in
+      (omega arith, omega arith));
   begins = λ G more climbs. log-begins m R F G some more climbs;
 }
 

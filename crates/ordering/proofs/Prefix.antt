@@ -10,7 +10,7 @@ use native.Mathlib.Decide.{decLt, ℕ-discrete}
 use native.Mathlib.Nat.{le-refl}
 use native.Mathlib.Numerals.{add-one}
 use native.Mathlib.Omega.{arith}
-use Rattle.ordering.proofs.Laws.{ceiling-none, ceiling-some, last-next, log-more}
+use Rattle.ordering.proofs.Laws.{last-next, last-some, log-more}
 use Rattle.ordering.specs.Order.{Ref, barOf, ceilingOf, entryAt, globalLog, keyOf, lastOf, logTo, refOf, seek}
 use Rattle.ordering.specs.Table.{Climbs, Ordered, blockId, refIn}
 use Rattle.sums.proofs.SeqLaws.{all-append, all-map}
@@ -28,43 +28,36 @@ ascends-le f b up p q h l = elim (decLt p q) [ yes s ↦ omega (arith, up p q s 
 pub ascends-place : (f : ℕ → ℕ) (b : ℕ) → Ascends f b → (p q : ℕ) → p < b → q < b → f p ≡ f q → p ≡ q
 ascends-place f b up p q h l e = elim (decLt p q) [ yes s ↦ absurd (omega (arith, up p q s l)) | no s ↦ elim (decLt q p) [ yes v ↦ absurd (omega (arith, up q p v h)) | no v ↦ omega arith ] ]
 
--- ranks that are each above the last before rise, and are all above 0
+-- ranks that are each above the last before rise
 pub climbs-ascends : (f : ℕ → ℕ) (b : ℕ) → Climbs f b → Ascends f b
 climbs-ascends f b up p zero h l = absurd (omega arith)
 climbs-ascends f b up p (suc q) h l =
     let next : f q < f (suc q) = omega (arith, up (suc q) l, last-next f q, ap (lastOf f) (add-one q)) in
     elim (ℕ-discrete p q) [ yes e ↦ omega (arith, ap f e) | no e ↦ omega (arith, climbs-ascends f b up p q (omega arith) (omega arith)) ]
 
-pub climbs-above : (f : ℕ → ℕ) (b : ℕ) → Climbs f b → (n : ℕ) → n < b → 0 < f n
-climbs-above f b up n l = omega (arith, up n l)
+-- what follows has a higher rank than the last of the first n, also where there was none
+pub climbs-last : (f : ℕ → ℕ) (b : ℕ) → Climbs f b → (n k : ℕ) → n ≤ k → k < b → lastOf f n < f k
+climbs-last f b up n k h l = omega (arith, up n (omega arith), ascends-le f b (climbs-ascends f b up) n k h l)
+
+last-grows : (f : ℕ → ℕ) (b : ℕ) → Climbs f b → (n k : ℕ) → n ≤ k → k ≤ b → lastOf f n ≤ lastOf f k
+last-grows f b up n k h l = elim (decLt n k) [
+  | yes s ↦ omega (arith, climbs-last f b up n (k - 1) (omega arith) (omega arith), last-some f k (omega arith))
+  | no s ↦ omega (arith, ap (lastOf f) (let e : n ≡ k = omega arith in e))
+]
 
 -- ---- the bar, as the document states it
 
 module _ (m : ℕ) (R : ℕ → ℕ → ℕ) (F : ℕ → ℕ) where
-  -- an instance without a block counts as having last rank 0: the bar is at most (1, that instance)
-  pub bar-empty : (j : ℕ) → j < m → F j ≡ 0 → barOf m R F ≤ keyOf 1 j
-  bar-empty j l e =
-      let z = ceiling-none R F j (omega arith) in
-      let w = least-le (ceilingOf R F 0) (ceilingOf R F) m j l in
-      omega arith
-
   -- the bar is at most (last rank + 1, instance) of each instance
-  pub bar-le : (j : ℕ) → j < m → 0 < F j → barOf m R F ≤ keyOf (R j (F j - 1) + 1) j
-  bar-le j l h =
-      let z = ceiling-some R F j h in
-      let w = least-le (ceilingOf R F 0) (ceilingOf R F) m j l in
-      omega arith
+  pub bar-le : (j : ℕ) → j < m → barOf m R F ≤ keyOf (lastOf (R j) (F j) + 1) j
+  bar-le = least-le (ceilingOf R F 0) (ceilingOf R F) m
 
   -- and it is that of some instance
   pub bar-is : 0 < m → (j : ℕ) × (j < m) × (barOf m R F ≡ keyOf (lastOf (R j) (F j) + 1) j)
-  bar-is h = go (decLt (barOf m R F) (ceilingOf R F 0))
-    where
-      at : (j : ℕ) → j < m → barOf m R F ≡ ceilingOf R F j → (j : ℕ) × (j < m) × (barOf m R F ≡ keyOf (lastOf (R j) (F j) + 1) j)
-      at j l e = (j, l, omega arith)
-
-      go : Dec (barOf m R F < ceilingOf R F 0) → (j : ℕ) × (j < m) × (barOf m R F ≡ keyOf (lastOf (R j) (F j) + 1) j)
-      go (yes l) = let w = least-found (ceilingOf R F 0) (ceilingOf R F) m l in at (w .0) (w .1) (w .2)
-      go (no l) = let w = least-le-start (ceilingOf R F 0) (ceilingOf R F) m in at 0 h (omega arith)
+  bar-is h = elim (decLt (barOf m R F) (ceilingOf R F 0)) [
+    | yes l ↦ least-found (ceilingOf R F 0) (ceilingOf R F) m l
+    | no l ↦ (0, h, omega (arith, least-le-start (ceilingOf R F 0) (ceilingOf R F) m))
+  ]
 
 -- ---- the beginning
 
@@ -94,20 +87,13 @@ log-from m R F lo hi h =
         )
 
 module _ (m : ℕ) (R : ℕ → ℕ → ℕ) (F G : ℕ → ℕ) (some : 0 < m) (grows : (j : ℕ) → j < m → F j ≤ G j) (climbs : (j : ℕ) → j < m → Climbs (R j) (G j)) where
-  asc : (j : ℕ) → j < m → Ascends (R j) (G j)
-  asc j l = climbs-ascends (R j) (G j) (climbs j l)
-
   -- below the bar of the smaller view both have the same blocks
   entry-same : (x : ℕ) → x < barOf m R F → entryAt m R G x ≡ entryAt m R F x
   unfolding entryAt
   entry-same x h = go (decLt (x % 16) m)
     where
-      absent : (l : x % 16 < m) → Dec (0 < F (x % 16)) → (k : ℕ) → F (x % 16) ≤ k → k < G (x % 16) → R (x % 16) k ≡ x / 16 → ⊥
-      absent l (yes p) k a b e =
-          let w = bar-le m R F (x % 16) l p in
-          let v = asc (x % 16) l (F (x % 16) - 1) k (omega arith) b in
-          omega arith
-      absent l (no p) k a b e = let w = bar-empty m R F (x % 16) l (omega arith) in omega (arith, climbs-above (R (x % 16)) (G (x % 16)) (climbs (x % 16) l) k b)
+      absent : (l : x % 16 < m) (k : ℕ) → F (x % 16) ≤ k → k < G (x % 16) → R (x % 16) k ≡ x / 16 → ⊥
+      absent l k a b e = omega (arith, bar-le m R F (x % 16) l, climbs-last (R (x % 16)) (G (x % 16)) (climbs (x % 16) l) (F (x % 16)) k a b)
 
       go : Dec (x % 16 < m)
           → onlyIf (ltb (x % 16) m) (map (refOf (x % 16)) (seek (R (x % 16)) (x / 16) (G (x % 16))))
@@ -115,7 +101,7 @@ module _ (m : ℕ) (R : ℕ → ℕ → ℕ) (F G : ℕ → ℕ) (some : 0 < m) 
       go (yes l) =
           let g = grows (x % 16) l in
           let e : G (x % 16) ≡ F (x % 16) + (G (x % 16) - F (x % 16)) = omega arith in
-          let s = seek-same (R (x % 16)) (x / 16) (F (x % 16)) (G (x % 16) - F (x % 16)) (λ k a b q. absent l (decLt 0 (F (x % 16))) k a (omega arith) q) in
+          let s = seek-same (R (x % 16)) (x / 16) (F (x % 16)) (G (x % 16) - F (x % 16)) (λ k a b q. absent l k a (omega arith) q) in
           ap (λ (z : List ℕ). onlyIf (ltb (x % 16) m) (map (refOf (x % 16)) z)) (ap (seek (R (x % 16)) (x / 16)) e ∙ s)
       go (no l) = let t = le-ltb (x % 16) m (omega arith) in simp t
 
@@ -128,17 +114,8 @@ module _ (m : ℕ) (R : ℕ → ℕ → ℕ) (F G : ℕ → ℕ) (some : 0 < m) 
   pub bar-grows : barOf m R F ≤ barOf m R G
   bar-grows = le-least (ceilingOf R G 0) (ceilingOf R G) m (barOf m R F) (each 0 some) each
     where
-      at : (j : ℕ) → j < m → Dec (0 < F j) → barOf m R F ≤ ceilingOf R G j
-      at j l (yes p) =
-          let g = grows j l in
-          let w = bar-le m R F j l p in
-          let v = ascends-le (R j) (G j) (asc j l) (F j - 1) (G j - 1) (omega arith) (omega arith) in
-          let z = ceiling-some R G j (omega arith) in
-          omega arith
-      at j l (no p) = let w = bar-empty m R F j l (omega arith) in omega arith
-
       each : (j : ℕ) → j < m → barOf m R F ≤ ceilingOf R G j
-      each j l = at j l (decLt 0 (F j))
+      each j l = omega (arith, bar-le m R F j l, last-grows (R j) (G j) (climbs j l) (F j) (G j) (grows j l) (le-refl (G j)))
 
   -- what the larger view adds comes after
   pub log-begins : Begins (globalLog m R F) (globalLog m R G)
