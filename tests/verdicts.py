@@ -41,6 +41,8 @@ MISMATCH = FACTS[2:6]
 UNCLOSED = "`search` does not close"
 PUT_TOGETHER = re.compile(r"^[^+].*-spec$")
 CARRIED_ON = re.compile(r"^same-length(-\d+)?$")
+# the laws of the clauses restate them, so that none can change alone: there every other clause is refused, a right one, too
+RESTATED = "proofs/Clauses.antt"
 
 
 def verdict(declaration, words):
@@ -110,7 +112,8 @@ class Log:
         return "" if "fact" in found else f"{law} still holds"
 
     def refused_anywhere(self):
-        found = self.words_of(self.errors)
+        """Why a wrong definition is not refused for a fact; empty where it is. What restates the definitions does not count."""
+        found = self.words_of(e for e in self.errors if e[0] != RESTATED)
         if any(UNCLOSED in words for words in self.unproved.values()):
             found.add("fact")
         return "" if "fact" in found else "no fact fails"
@@ -187,6 +190,8 @@ def selftest():
         (log.refused_law("law"), ""),
         (log.refused_law("lemma"), "lemma still holds"),
         (log.refused_law("open"), "the proof of open no longer fits"),
+        (log.refused_anywhere(), ""),
+        (Log("c", "\n".join(line for line in SAMPLE_LOG.splitlines() if "Clauses" in line)).refused_anywhere(), "no fact fails"),
         ([where for where, _ in log.disturbed({put, get, add})], ["proofs/Clauses.antt `open`", "proofs/Clauses.antt `law`", "low"]),
         ([where for where, _ in log.disturbed({get, add, low})],
          ["proofs/bytes/put/Proof.antt `returns`", "proofs/Clauses.antt `open`", "proofs/Clauses.antt `law`"]),

@@ -1,4 +1,4 @@
--- Laws that the layers above cite.
+-- Laws that the layers above cite, and the theorem `log-rules`.
 pub mod Laws
 pub mod Merge
 pub mod Usable
@@ -8,3 +8,4 @@ pub mod LogSum
 pub mod Whole
 pub mod Log
 pub mod LogRules
+pub mod Clauses

@@ -1,0 +1,55 @@
+-- What each clause of the claim on bar and log gives its reader. One law a clause: whoever loses a clause breaks its law.
+-- Assumes nothing.
+use Prim.Native.Nat.{_+_, _<_, _≤_, ℕ}
+use lib.ListN.{length}
+use mathlib.Core.List.{[], _∷_}
+use mathlib.Core.Path.{_≡_}
+use Rattle.ordering.specs.Claim.{Ascending, LogOf, LogRules, keyIn, timesIn}
+use Rattle.ordering.specs.Order.{barOf, globalLog, keyOf, lastOf, refOf}
+use Rattle.ordering.specs.Table.{Climbs, usable}
+use Rattle.sums.specs.Seq.{All, Begins}
+use Rattle.sums.specs.Sum.{sumTo}
+
+module _ {m : ℕ} {R : ℕ → ℕ → ℕ} {F : ℕ → ℕ} (p : LogOf m R F) where
+  -- with the next law: the bar and no other number
+  pub log-bar-some : (j : ℕ) × (j < m) × (barOf m R F ≡ keyOf (lastOf (R j) (F j) + 1) j)
+  log-bar-some = p .bar-some
+
+  pub log-bar-least : (j : ℕ) → j < m → barOf m R F ≤ keyOf (lastOf (R j) (F j) + 1) j
+  log-bar-least = p .bar-least
+
+  -- with the next two laws: these blocks, in this order, and nothing else
+  pub log-below : All (λ b. (b .instance < m) × (b .index < F (b .instance)) × (keyIn R b < barOf m R F)) (globalLog m R F)
+  log-below = p .below
+
+  pub log-holds-once : (i n : ℕ) → i < m → n < F i → keyOf (R i n) i < barOf m R F → timesIn i n (globalLog m R F) ≡ 1
+  log-holds-once = p .once
+
+  pub log-in-order : Ascending (keyIn R) (globalLog m R F)
+  log-in-order = p .ascending
+
+  pub log-no-longer : length (globalLog m R F) ≤ sumTo m F
+  log-no-longer = p .size
+
+  pub log-of-nothing : ((j : ℕ) → j < m → F j ≡ 0) → globalLog m R F ≡ []
+  log-of-nothing = p .nothing
+
+  pub log-beside-empty : (e : ℕ) → e < m → F e ≡ 0 → All (λ b. (keyIn R b ≡ keyOf 1 (b .instance)) × (b .instance < e)) (globalLog m R F)
+  log-beside-empty = p .silent
+
+  pub log-goes-on : (G : ℕ → ℕ) → ((j : ℕ) → j < m → F j ≤ G j) → ((j : ℕ) → j < m → Climbs (R j) (G j)) → Begins (globalLog m R F) (globalLog m R G)
+  log-goes-on = p .begins
+
+module _ (p : LogRules) where
+  pub rules-of-views : (m : ℕ) (R : ℕ → ℕ → ℕ) (F : ℕ → ℕ) → 0 < m → m ≤ 16 → ((j : ℕ) → j < m → Climbs (R j) (F j)) → LogOf m R F
+  rules-of-views = p .views
+
+  -- with the next law: the rules hold of whatever ranks a caller lends, and of a longer table of them, too
+  pub rules-of-tables : (R : ℕ → ℕ → ℕ) (F : ℕ → ℕ) (j : ℕ) → Climbs (R j) (usable R F j)
+  rules-of-tables = p .tables
+
+  pub rules-of-growth : (R : ℕ → ℕ → ℕ) (F G : ℕ → ℕ) (j : ℕ) → F j ≤ G j → usable R F j ≤ usable R G j
+  rules-of-growth = p .tables-grow
+
+  pub rules-of-example : (R : ℕ → ℕ → ℕ) (F : ℕ → ℕ) → F 0 ≡ 1 → R 0 0 ≡ 1 → F 1 ≡ 0 → (barOf 2 R F ≡ keyOf 1 1) × (globalLog 2 R F ≡ refOf 0 0 ∷ [])
+  rules-of-example = p .example
