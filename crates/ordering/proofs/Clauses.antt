@@ -34,7 +34,11 @@ module _ {m : ℕ} {R : ℕ → ℕ → ℕ} {F : ℕ → ℕ} (p : LogOf m R F)
   pub log-of-nothing : ((j : ℕ) → j < m → F j ≡ 0) → globalLog m R F ≡ []
   log-of-nothing = p .nothing
 
-  pub log-beside-empty : (e : ℕ) → e < m → F e ≡ 0 → All (λ b. (keyIn R b ≡ keyOf 1 (b .instance)) × (b .instance < e)) (globalLog m R F)
+  -- with `log-below` and `log-holds-once`: beside empty instances, every block of rank 1 of those below all of them
+  pub log-bar-of-empty : (e : ℕ) → e < m → F e ≡ 0 → ((j : ℕ) → j < e → 0 < F j) → barOf m R F ≡ keyOf 1 e
+  log-bar-of-empty = p .lowest
+
+  pub log-beside-empty : (e : ℕ) → e < m → F e ≡ 0 → All (λ b. (R (b .instance) (b .index) ≡ 1) × (b .instance < e)) (globalLog m R F)
   log-beside-empty = p .silent
 
   pub log-goes-on : (G : ℕ → ℕ) → ((j : ℕ) → j < m → F j ≤ G j) → ((j : ℕ) → j < m → Climbs (R j) (G j)) → Begins (globalLog m R F) (globalLog m R G)

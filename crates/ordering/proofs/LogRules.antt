@@ -3,9 +3,9 @@
 use Prim.Native.Nat.{_%_, _-_, _<_, _≤_, min, ℕ}
 use mathlib.Core.List.{[], _++_, _∷_, map}
 use mathlib.Core.Path.{_∙_, _≡_, ap, ap₂}
-use native.Mathlib.Decide.{ℕ-discrete}
+use native.Mathlib.Decide.{decLt, ℕ-discrete}
 use native.Mathlib.Omega.{arith}
-use Rattle.ordering.proofs.Laws.{ceiling-none, ceiling-some, entry-none, last-none, log-more, log-quiet, seek-one}
+use Rattle.ordering.proofs.Laws.{ceiling-none, ceiling-some, entry-none, last-none, last-some, log-more, log-quiet, seek-one}
 use Rattle.ordering.proofs.Log.{log-ascending, log-once}
 use Rattle.ordering.proofs.LogSum.{log-size}
 use Rattle.ordering.proofs.Prefix.{all-log, bar-is, bar-le, climbs-ascends, log-begins}
@@ -25,6 +25,16 @@ views m R F some small up = record {
   ascending = log-ascending m R F (λ j l. climbs-ascends (R j) (F j) (up j l));
   size = log-size m small R F;
   nothing = log-empty m R F;
+  lowest = λ e l z some-below.
+      let (j, u, is) = bar-is m R F some in
+      let w = bar-le m R F e l in
+      let none = last-none (R e) (F e) (omega arith) in
+      elim (decLt j e) [
+        | yes k ↦
+            let h = some-below j k in
+            omega (arith, up j u (F j - 1) (omega arith), last-some (R j) (F j) h)
+        | no k ↦ omega arith
+      ];
   silent = λ e l z. all-log m R F _
       (λ i n a u h.
       let w = bar-le m R F e l in

@@ -37,8 +37,9 @@ pub record LogOf (m : ℕ) (R : ℕ → ℕ → ℕ) (F : ℕ → ℕ) : Type 0 
   pub size : length (globalLog m R F) ≤ sumTo m F
   -- "A view with no blocks at all still has an empty log"
   pub nothing : ((j : ℕ) → j < m → F j ≡ 0) → globalLog m R F ≡ []
-  -- with instance e empty only first ranks of lower instances are safe
-  pub silent : (e : ℕ) → e < m → F e ≡ 0 → All (λ b. (keyIn R b ≡ keyOf 1 (b .instance)) × (b .instance < e)) (globalLog m R F)
+  -- beside instances without a block the bar is (1, the lowest of them), and only blocks of rank 1 of lower instances are in the log
+  pub lowest : (e : ℕ) → e < m → F e ≡ 0 → ((j : ℕ) → j < e → 0 < F j) → barOf m R F ≡ keyOf 1 e
+  pub silent : (e : ℕ) → e < m → F e ≡ 0 → All (λ b. (R (b .instance) (b .index) ≡ 1) × (b .instance < e)) (globalLog m R F)
   -- "a shorter replay's log must still be a beginning of the longer one's"
   pub begins : (G : ℕ → ℕ) → ((j : ℕ) → j < m → F j ≤ G j) → ((j : ℕ) → j < m → Climbs (R j) (G j)) → Begins (globalLog m R F) (globalLog m R G)
 

@@ -129,14 +129,14 @@ abbrev pub lastEmpty : Row
 lastEmpty = order 3 (blk 1 1 1 0 0 [] ∷ blk 0 1 1 0 0 [] ∷ blk 0 2 2 1 0 [] ∷ []) (yes 3) (keyOf 1 2) (refOf 0 0 ∷ refOf 1 0 ∷ [])
 
 -- instance 1 starts late, at rank 1: its block comes after the one that is logged, and before one that had waited for it
-abbrev pub early : List Values
-early = blk 0 1 1 0 0 [] ∷ blk 0 2 2 1 0 [] ∷ blk 2 1 3 0 0 [] ∷ []
+abbrev pub beforeStart : List Values
+beforeStart = blk 0 1 1 0 0 [] ∷ blk 0 2 2 1 0 [] ∷ blk 2 1 3 0 0 [] ∷ []
 
 abbrev pub notStarted : Row
-notStarted = order 3 early (yes 3) (keyOf 1 1) (refOf 0 0 ∷ [])
+notStarted = order 3 beforeStart (yes 3) (keyOf 1 1) (refOf 0 0 ∷ [])
 
 abbrev pub startsLate : Row
-startsLate = order 3 (early ++ (blk 1 1 1 0 0 [] ∷ [])) (yes 4) (keyOf 2 1) (refOf 0 0 ∷ refOf 1 0 ∷ refOf 0 1 ∷ [])
+startsLate = order 3 (beforeStart ++ (blk 1 1 1 0 0 [] ∷ [])) (yes 4) (keyOf 2 1) (refOf 0 0 ∷ refOf 1 0 ∷ refOf 0 1 ∷ [])
 
 -- ---- settlement of payments
 
