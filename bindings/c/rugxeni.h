@@ -204,7 +204,8 @@ uint16_t rugxeni_registers(
     uint32_t *values, size_t values_len,         /* g */
     uint64_t *told, size_t told_len);            /* 0: as much is told as fits */
 
-/* The share, in thousandths, as the second number told.
+/* The share as the second number told: settled transactions in thousandths of all, to the nearest and a tie to the even
+ * figure; 1000 where there are none.
  *
  * A reading of the full view. The call returns 0, or a refusal's number with its place in `told`. */
 uint16_t rugxeni_share(

@@ -130,7 +130,7 @@ class Reading:
     settlements: List[str]  # "open", "paid" or "returned"
     accounts: List[Account]
     registers: List[int]
-    share: int  # paid and returned transactions in thousandths
+    share: int  # paid and returned transactions in thousandths, to the nearest and a tie to the even figure; 1000 where there are none
 
     def text(self) -> str:
         """The lines that `readrun` prints."""

@@ -164,6 +164,7 @@ class Ledger:
         return statuses[: self.numbers[3]]
 
     def share(self) -> int:
+        """Settled transactions in thousandths of all, to the nearest and a tie to the even figure; 1000 where there are none."""
         return self.read("rugxeni_share")
 
     def log(self) -> List[Tuple[int, int]]:

@@ -20,6 +20,7 @@ TABLE = "docs/generated/trusted-text.md"
 GROUPS = [
     ("demand 3", [("demand", "Claim", "Demand")], []),
     ("the bar and the global log", [("ordering", "Claim", "LogRules")], []),
+    ("the share", [("escrow", "Claim", "ShareRules")], []),
     ("the calls for loading, offers and readings", [], ["state", "offers", "readings", "account_records"]),
     ("the text of a reading", [], ["report"]),
     ("the readers of slips and their fields", [], ["fields", "refusals", "transactions", "frames"]),

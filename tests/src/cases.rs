@@ -1,5 +1,5 @@
-//! Named runs, each with the text that the scope paper gives for it, request
-//! 04 included.
+//! Named runs, each with the text that the scope paper gives for it, requests
+//! 04 and 05 included.
 //!
 //! The texts are worked out by hand from the papers, not by the engine; the
 //! engine is checked against them, and so may be any other program.
@@ -7,6 +7,7 @@
 //! * [`edges`] — "Edges", and the worked run ended at every byte;
 //! * [`rules`] — places where a rule of the ledger is easily mistaken;
 //! * [`empty`], [`empty_views`] — request 04: instances without a block;
+//! * [`share`] — request 05: the share, rounded to the nearest;
 //! * [`slips`] — refusals 1 to 7;
 //! * [`blocks`] — refusals 8 to 15 and 17.
 
@@ -15,6 +16,7 @@ pub mod edges;
 pub mod empty;
 pub mod empty_views;
 pub mod rules;
+pub mod share;
 pub mod slips;
 
 use crate::engine::format::{CONTRACT, PAYMENT};
@@ -38,6 +40,7 @@ pub fn all() -> Vec<Case> {
         blocks::blocks(),
         empty::empty(),
         empty_views::views(),
+        share::share(),
     ]
     .into_iter()
     .flatten()

@@ -5,6 +5,7 @@
 //! * [`blocks`] — deliveries: ranks, cuts, turns and citations of every habit;
 //! * [`pace`] — the habits of one delivery;
 //! * [`silent`] — runs with instances that deliver nothing, or begin late;
+//! * [`ties`] — runs whose share is at a tie, or beside one;
 //! * [`spoil`] — blocks that are to be turned away (8 to 15 and 17);
 //! * [`damage`] — slips and runs that are not sound (1 to 7);
 //! * [`bounds`] — runs that hang on the last place of every list;
@@ -19,6 +20,7 @@ pub mod random;
 pub mod sheets;
 pub mod silent;
 pub mod spoil;
+pub mod ties;
 
 use crate::engine::text::LONGEST_RUN;
 use crate::engine::{write, Block, Logs, Sheet};
@@ -27,6 +29,8 @@ use random::Random;
 
 /// So many runs of a hundred are about instances that deliver nothing.
 const SILENT: u64 = 40;
+/// So many of a hundred are about ties, but for tiny ones, which have none.
+const TIES: u64 = 25;
 
 /// How large a run is.
 #[derive(Clone, Copy, Debug, PartialEq, Eq)]
@@ -78,15 +82,23 @@ impl Run {
 
 /// A run of a size whose slips are all sound. `noise` is the share of offers,
 /// in percent, that are meant to be turned away. Many of the runs are about
-/// instances that deliver nothing.
+/// instances that deliver nothing, some about ties of the share.
 pub fn run(random: &mut Random, size: Size, noise: u64) -> Run {
-    if size != Size::Largest && random.chance(SILENT) {
+    if size == Size::Largest {
+        return plain(random, size, noise);
+    }
+    let ticket = random.below(100);
+    if ticket < SILENT {
         return silent::run(random, size, noise);
+    }
+    if ticket < SILENT + TIES && size != Size::Tiny {
+        return ties::run(random, size, noise);
     }
     plain(random, size, noise)
 }
 
-/// A run in which instances deliver nothing only by chance.
+/// A run in which instances deliver nothing, or the share is at a tie, only by
+/// chance.
 pub fn plain(random: &mut Random, size: Size, noise: u64) -> Run {
     let sheet = sheets::sheet(random, size);
     let pace = Pace::random(random, &sheet, size, budget(&sheet, size), noise);

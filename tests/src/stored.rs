@@ -50,6 +50,7 @@ pub fn groups() -> Vec<Group> {
         Group::new("rules", named(cases::rules::rules())),
         Group::new("empty", named(cases::empty::empty())),
         Group::new("empty_views", named(cases::empty_views::views())),
+        Group::new("share", named(cases::share::share())),
         Group::new("cut_off", named(cases::edges::truncations())),
         Group::new("sheets", named(cases::slips::of_the_sheet())),
         Group::new("slips", named(cases::slips::among_the_blocks())),

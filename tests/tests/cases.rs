@@ -39,6 +39,11 @@ fn views_without_a_block_of_an_instance() {
 }
 
 #[test]
+fn shares_to_the_nearest() {
+    check(cases::share::share());
+}
+
+#[test]
 fn refusals_of_the_sheet() {
     check(cases::slips::of_the_sheet());
 }

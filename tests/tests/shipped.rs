@@ -68,6 +68,9 @@ fn the_stored_runs_hold_what_they_are_named_for() {
     };
     assert!(runs("edges").contains(&content("examples/worked.run")));
     assert!(runs("edges").contains(&content("examples/unseen.run")));
+    // The figures of request 05 come first.
+    let shares = texts("share");
+    assert!(shares[0].ends_with("\nshare 62\n") && shares[1].ends_with("\nshare 188\n"));
     // Every refusal but 16 once, in order.
     let numbers = (1..=17).filter(|number| *number != 16);
     assert_eq!(texts("refusals").len(), 16);

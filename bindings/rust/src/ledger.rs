@@ -205,8 +205,8 @@ impl Ledger {
         Ok(statuses.into_iter().map(settlement).collect())
     }
 
-    /// Settled transactions (paid or returned) in thousandths of all, rounded down; 1000 where there are none. Refusal: 3
-    /// with place 0 before the sheet is complete.
+    /// Settled transactions (paid or returned) in thousandths of all, to the nearest and a tie to the even figure; 1000
+    /// where there are none. Refusal: 3 with place 0 before the sheet is complete.
     pub fn share(&mut self) -> Result<u32, Refusal> {
         let mut told = [0; 2];
         let code = ffi::share(&self.numbers, &self.kept, &mut self.working, &mut told);

@@ -20,7 +20,8 @@ pub struct Reading {
     pub accounts: Vec<Account>,
     /// The registers, from register 0 up.
     pub registers: Vec<u32>,
-    /// Settled transactions (paid or returned) in thousandths of all, rounded down; 1000 where there are none.
+    /// Settled transactions (paid or returned) in thousandths of all, to the nearest and a tie to the even figure; 1000
+    /// where there are none.
     pub share: u32,
 }
 

@@ -1,6 +1,6 @@
 -- Amounts and outcomes, from the cells.
 -- Assumes nothing.
-use Prim.Native.Nat.{_*_, _+_, _-_, _/_, _<_, _≤_, ℕ}
+use Prim.Native.Nat.{_*_, _+_, _-_, _<_, _≤_, ℕ}
 use borrow.Author.Tests.{eq-eqb, eqb-false, eqb-true, ne-eqb}
 use lib.Dec.{eqb, leb}
 use lib.ListN.{drop, getD, length}
@@ -11,7 +11,6 @@ use native.Mathlib.Omega.{arith}
 use Rattle.escrow.specs.Amounts.{coveredBy, credited, debitAt, free, freeBy, held, heldBy, isPaid, isPending, partGood, reserved}
 use Rattle.escrow.specs.Cells.{freeIn, goodIn, heldIn}
 use Rattle.escrow.specs.Inner.{debitGood, debitsOut, outAt, takes}
-use Rattle.escrow.specs.Report.{shareOf}
 use Rattle.transactions.specs.Content.{Entry, Transaction, entryOf, noEntry}
 use Rattle.transactions.specs.Body.{entryIn, transactionOf}
 use Rattle.ordering.specs.Table.{countIn}
@@ -191,12 +190,3 @@ module _ (z : Sizes) (table : List ℕ) (x n : ℕ) (e : statusOf n ≡ statusIn
       go : (b : Bool) → eqb n 1 ≡ b → 1 ≡ flip (isPending (statusIn z table x))
       go true q = sym (ap (λ (s : Status). flip (isPending s)) (sym e ∙ of-paid n h (eqb-true n 1 q)))
       go false q = sym (ap (λ (s : Status). flip (isPending s)) (sym e ∙ of-returned n h (eqb-false n 1 q)))
-
-module _ (t : ℕ) (st : ℕ → Status) where
-  pub share-none : t ≡ 0 → 1000 ≡ shareOf t st
-  unfolding shareOf
-  share-none h = sym (pick-true _ _ _ (eq-eqb t 0 h))
-
-  pub share-some : (t ≡ 0 → ⊥) → (n : ℕ) → n ≡ sumTo t (λ x. flip (isPending (st x))) → n * 1000 / t ≡ shareOf t st
-  unfolding shareOf
-  share-some h n e = ap (λ (k : ℕ). k * 1000 / t) e ∙ sym (pick-false _ _ _ (ne-eqb t 0 h))

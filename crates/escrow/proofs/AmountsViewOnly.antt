@@ -1,11 +1,11 @@
 -- Amounts and the judgement of a part depend only on what the view holds (`free-same`, `held-same`, `partGood-same`); the share on the statuses (`share-same`).
 -- Assumes nothing.
-use Prim.Native.Nat.{_*_, _+_, _-_, _/_, _<_, ℕ}
+use Prim.Native.Nat.{_+_, _-_, _<_, ℕ}
 use lib.Dec.{eqb, leb}
 use mathlib.Core.Bool.{Bool, true}
 use mathlib.Core.Path.{_∙_, _≡_, ap, ap₂}
 use Rattle.escrow.specs.Amounts.{coveredBy, credited, debitAt, free, freeBy, held, heldBy, isPaid, isPending, notReturned, partGood, reserved}
-use Rattle.escrow.specs.Report.{shareOf}
+use Rattle.escrow.specs.Share.{shareOf, thousandths}
 use Rattle.transactions.specs.Content.{entryOf}
 use Rattle.settlement.proofs.ViewOnly.{Same, status-same}
 use Rattle.settlement.specs.Contracts.{Status}
@@ -50,4 +50,4 @@ module _ (S : Sheet) (some : 0 < S .m) (v v' : View) (R R' : Rows) (same : Same 
 
 pub share-same : (t : ℕ) (st st' : ℕ → Status) → ((x : ℕ) → st x ≡ st' x) → shareOf t st ≡ shareOf t st'
 unfolding shareOf
-share-same t st st' h = ap (λ (n : ℕ). pick (eqb t 0) 1000 (n * 1000 / t)) (sum-ext t _ _ (λ x l. ap (λ (s : Status). flip (isPending s)) (h x)))
+share-same t st st' h = ap (λ (n : ℕ). thousandths n t) (sum-ext t _ _ (λ x l. ap (λ (s : Status). flip (isPending s)) (h x)))

@@ -6,5 +6,8 @@ pub mod Outcomes
 pub mod FullView
 pub mod Growth
 pub mod Totals
+pub mod ShareLaws
+pub mod ShareRules
+pub mod Clauses
 pub mod AmountCells
 pub mod Rows

@@ -1,12 +1,11 @@
-// The share of settled transactions (document 01, "One reading, whole").
+// The share of settled transactions (document 01, "One reading, whole"; request 05).
 use settlement::settle::status_at;
 use sheets::sheet::Sizes;
 ghost use Prim.Native.Nat.{_≤_};
 ghost use mathlib.Core.Path.{_≡_};
 ghost use Rattle.escrow.specs.Amounts.{isPending};
-ghost use Rattle.escrow.specs.Report.{shareOf};
+ghost use Rattle.escrow.specs.Share.{settledCount, shareOf, thousandths};
 ghost use Rattle.settlement.specs.Tables.{statusIn};
-ghost use Rattle.sums.specs.Sum.{sumTo};
 ghost use Rattle.sums.specs.Test.{flip};
 
 // 1 where transaction x is settled.
@@ -17,7 +16,7 @@ fn settled_bit(table: &[u8], z: Sizes, x: u16) -> u32
 }
 
 fn settled_count(table: &[u8], z: Sizes) -> u32
-    ensures { λ r. ⌜ (r ≡ sumTo (z .t) (λ x. flip (isPending (statusIn z (now (table .entry)) x)))) × (r ≤ z .t) ⌝ }
+    ensures { λ r. ⌜ (r ≡ settledCount (z .t) (statusIn z (now (table .entry)))) × (r ≤ z .t) ⌝ }
 {
     let t = z.t;
     let mut n: u32 = 0;
@@ -27,13 +26,29 @@ fn settled_count(table: &[u8], z: Sizes) -> u32
     n
 }
 
-// In thousandths, rounded down; 1000 where there is no transaction.
+// s of t in thousandths, to the nearest and a tie to the even figure; 1000 where t is 0. Of any two numbers: beyond t there are more than 1000.
+pub fn thousandths(s: u32, t: u32) -> u64
+    ensures { λ r. ⌜ r ≡ thousandths s t ⌝ }
+{
+    if t == 0 {
+        return 1000;
+    }
+    let n = (s as u64) * 1000;
+    let d = t as u64;
+    let q = n / d;
+    let twice = n % d * 2;
+    if twice < d {
+        return q;
+    }
+    if d < twice {
+        return q + 1;
+    }
+    q + q % 2
+}
+
+// At most 1000.
 pub fn share_of(table: &[u8], z: Sizes) -> u32
     ensures { λ r. ⌜ r ≡ shareOf (z .t) (statusIn z (now (table .entry))) ⌝ }
 {
-    if z.t == 0 {
-        return 1000;
-    }
-    let scaled = settled_count(table, z) * 1000;
-    scaled / (z.t as u32)
+    thousandths(settled_count(table, z), z.t as u32) as u32
 }

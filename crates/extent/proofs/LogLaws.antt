@@ -1,22 +1,21 @@
 -- The logs of the plain ledger on a sheet in range stay in range, and so does their report.
 -- Assumes nothing.
-use Prim.Native.Nat.{_*_, _+_, _/_, _<_, _≤_, suc, zero, ℕ}
+use Prim.Native.Nat.{_+_, _/_, _<_, _≤_, suc, zero, ℕ}
 use borrow.Author.Tests.{leb-true}
-use lib.Dec.{eqb}
 use lib.ListN.{List·getD-eq-default, getD, getD-replicate, length, length-replicate, length-set, replicate, set}
 use lib.Seq.{getD-set-other, getD-set-same, set-out}
-use mathlib.Core.Bool.{Bool, false, true}
+use mathlib.Core.Bool.{true}
 use mathlib.Core.List.{List, [], _∷_, map}
 use mathlib.Core.Path.{_∙_, _≡_, ap}
 use native.Mathlib.Decide.{decLt, ℕ-discrete}
-use native.Mathlib.Nat.{div-le-self}
 use native.Mathlib.Omega.{arith}
 use Rattle.closing.proofs.RegisterLaws.{registers-count, registers-keep}
 use Rattle.escrow.proofs.FullView.{freeAll, heldAll}
+use Rattle.escrow.proofs.ShareRules.{share-rules}
 use Rattle.escrow.proofs.Totals.{adds-up}
-use Rattle.escrow.specs.Amounts.{isPending}
 use Rattle.escrow.specs.Outcome.{History, fullView}
-use Rattle.escrow.specs.Report.{rowsAll, shareOf}
+use Rattle.escrow.specs.Report.{rowsAll}
+use Rattle.escrow.specs.Share.{settledCount, shareOf}
 use Rattle.ordering.proofs.LogSum.{log-size}
 use Rattle.ordering.proofs.Prefix.{all-log}
 use Rattle.ordering.specs.Order.{Ref}
@@ -44,7 +43,6 @@ use Rattle.sums.proofs.SumLaws.{sum-term}
 use Rattle.sums.proofs.TestLaws.{by-pick}
 use Rattle.sums.specs.Seq.{All, tabulate}
 use Rattle.sums.specs.Sum.{sumTo}
-use Rattle.sums.specs.Test.{flip}
 use Rattle.text.proofs.Bounds.{Below, TailFits}
 use Rattle.transactions.specs.Content.{Operation, operationOf}
 
@@ -133,15 +131,9 @@ registers-low S v R w =
 
 -- ---- the report
 
-flip-small : (t : Bool) → flip t ≤ 1
-flip-small true = omega arith
-flip-small false = omega arith
-
-share-low : (t : ℕ) (st : ℕ → Status) → t ≤ 1024 → shareOf t st < 4294967296
+share-low : (t : ℕ) (st : ℕ → Status) → shareOf t st < 4294967296
 unfolding shareOf
-share-low t st h =
-    by-pick (λ (n : ℕ). n < 4294967296) (eqb t 0) (λ e. omega arith)
-    (λ e. omega (arith, div-le-self (sumTo t (λ x. flip (isPending (st x))) * 1000) t, sum-most t 1 (λ x. flip (isPending (st x))) (λ x l. flip-small (isPending (st x)))))
+share-low t st = omega (arith, share-rules .most (settledCount t st) t (share-rules .counted t st))
 
 below-tabulate : (b n : ℕ) (f : ℕ → ℕ) → 0 < b → ((k : ℕ) → k < n → f k < b) → Below b (tabulate n f)
 below-tabulate b n f z h = each-tabulated (λ (v : ℕ). v < b) n f 0 h z
@@ -179,5 +171,5 @@ module _ (S : Sheet) (T : SheetFits S) (L : Logs) (f : LogsFit S L) where
     frees = below-tabulate _ (S .a) (freeAll S (historyOf L)) (omega arith) (λ k u. omega (arith, sum-term (S .a) (freeAll S (historyOf L)) k u, total));
     helds = below-tabulate _ (S .a) (heldAll S (historyOf L)) (omega arith) (λ k u. omega (arith, sum-term (S .a) (heldAll S (historyOf L)) k u, total));
     values = registers-low S (T .values) (rowsAll S (historyOf L)) (fullView (historyOf L));
-    thousandths = share-low (txCount S) _ (T .proper .few);
+    shares = share-low (txCount S) _;
   }

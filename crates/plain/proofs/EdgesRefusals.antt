@@ -5,7 +5,8 @@ use mathlib.Core.Bool.{true}
 use mathlib.Core.Path.{_≡_, refl}
 use Rattle.escrow.specs.Amounts.{coveredBy, credited, debitAt, free, freeBy, held, heldBy, partGood, reserved}
 use Rattle.escrow.specs.Outcome.{depth, fullView, judge, judgedTo, outcome, rowsOf, viewOf}
-use Rattle.escrow.specs.Report.{rowsAll, shareOf}
+use Rattle.escrow.specs.Report.{rowsAll}
+use Rattle.escrow.specs.Share.{nearest, shareOf, thousandths}
 use Rattle.frames.specs.Frame.{frameAt}
 use Rattle.frames.specs.Header.{headerOk}
 use Rattle.frames.specs.Balances.{balancesOk}
@@ -138,5 +139,5 @@ unfolding tabulate pick anyTo home hasPart _then_ refuse firstTo appended histor
 more-refused = refl
 
 pub last-place : reportOf lastSheet lastLogs ≡ lastReport
-unfolding tabulate sumTo pick given anyTo allTo leastFrom seek entryAt logTo globalLog credited debitAt reserved heldBy freeBy free held partGood coveredBy operate operateTo operated counted settled booked step runAll rowsOf viewOf fullView judge judgedTo depth outcome rowsAll shareOf isCite isFail cited failed payment contracts status home amountOn hasPart parts isContract eventAt viewSum viewLog blockEvents logEvents historyOf reportBy reportOf
+unfolding tabulate sumTo pick given anyTo allTo leastFrom seek entryAt logTo globalLog credited debitAt reserved heldBy freeBy free held partGood coveredBy operate operateTo operated counted settled booked step runAll rowsOf viewOf fullView judge judgedTo depth outcome rowsAll shareOf thousandths nearest isCite isFail cited failed payment contracts status home amountOn hasPart parts isContract eventAt viewSum viewLog blockEvents logEvents historyOf reportBy reportOf
 last-place = refl

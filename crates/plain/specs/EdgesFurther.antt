@@ -5,6 +5,7 @@ use mathlib.Core.List.{List, [], _++_, _∷_}
 use Rattle.ordering.specs.Order.{Ref, keyOf, refOf}
 use Rattle.plain.specs.Answer.{accepted, refused}
 use Rattle.plain.specs.Edges.{Row, blk, contract, cutReport, ent, marked, op, order, pay, reads, row, runsOps, sheetOf, wholeReport, wholeSheet, works, yes}
+use Rattle.plain.specs.EdgesShare.{rounded}
 use Rattle.plain.specs.Logs.{Values}
 use Rattle.plain.specs.Offers.{Offer, frame, offerNeeds}
 use Rattle.sums.specs.Seq.{tabulate}
@@ -156,11 +157,11 @@ abbrev pub onePart : Row
 onePart = row (sheetOf 2 0 (1 ∷ 0 ∷ 2 ∷ []) (pay (ent 0 1 ∷ ent 2 2 ∷ []) (ent 1 3 ∷ []) ∷ [])) (blk 0 1 1 0 0 (0 ∷ []) ∷ []) (yes 1) (keyOf 1 1)
     (reads (refOf 0 0 ∷ []) (paid ∷ []) (0 ∷ 3 ∷ 0 ∷ []) (0 ∷ 0 ∷ 0 ∷ []) [] 1000)
 
--- an account pays itself: judged before its own credit, 6 out of 5 fails and 5 is paid. Two of three settled: the share 666 is rounded down
+-- an account pays itself: judged before its own credit, 6 out of 5 fails and 5 is paid. Two of three settled, one paid and one returned: 666.7 is 667
 abbrev pub selfPaid : Row
 selfPaid = row (sheetOf 1 0 (5 ∷ []) (pay (ent 0 6 ∷ []) (ent 0 6 ∷ []) ∷ pay (ent 0 5 ∷ []) (ent 0 5 ∷ []) ∷ pay (ent 0 1 ∷ []) (ent 0 1 ∷ []) ∷ []))
     (blk 0 1 1 0 0 (0 ∷ 1 ∷ []) ∷ []) (yes 1) (keyOf 2 0)
-    (reads (refOf 0 0 ∷ []) (returned ∷ paid ∷ pending ∷ []) (5 ∷ []) (0 ∷ []) [] 666)
+    (reads (refOf 0 0 ∷ []) (returned ∷ paid ∷ pending ∷ []) (5 ∷ []) (0 ∷ []) [] 667)
 
 -- ---- contracts
 
@@ -232,4 +233,4 @@ further =
     ∷ missing ∷ givenBack ∷ onePart ∷ selfPaid ∷ runsLast ∷ logOrder ∷ secondBlock ∷ tests ∷ sees ∷ undone ∷ resent ∷ asFrames ∷ []
 
 abbrev pub table : List Row
-table = marked ++ further
+table = marked ++ (further ++ rounded)

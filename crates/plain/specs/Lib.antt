@@ -6,6 +6,7 @@ pub mod Plain
 pub mod Early
 pub mod Report
 pub mod Edges
+pub mod EdgesShare
 pub mod EdgesFurther
 pub mod EdgesRefusals
 pub mod EdgesFull

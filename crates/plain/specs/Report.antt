@@ -7,7 +7,8 @@ use mathlib.Core.List.{List, [], _++_, _∷_, map}
 use mathlib.Core.Path.{_≡_}
 use Rattle.escrow.specs.Amounts.{free, held}
 use Rattle.escrow.specs.Outcome.{fullView}
-use Rattle.escrow.specs.Report.{rowsAll, shareOf}
+use Rattle.escrow.specs.Report.{rowsAll}
+use Rattle.escrow.specs.Share.{shareOf}
 use Rattle.settlement.specs.Settlement.{status}
 use Rattle.ordering.specs.Order.{Ref}
 use Rattle.plain.specs.Answer.{Answer, _then_, isAccepted, refuse}

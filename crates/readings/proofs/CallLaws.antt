@@ -8,7 +8,7 @@ use mathlib.Core.Path.{_∙_, _≡_, ap, ap₂, refl, sym}
 use native.Mathlib.Omega.{arith}
 use Rattle.admission.specs.Replies.{replyTo}
 use Rattle.escrow.specs.Cells.{freeIn, heldIn}
-use Rattle.escrow.specs.Report.{shareOf}
+use Rattle.escrow.specs.Share.{shareOf}
 use Rattle.ordering.specs.Table.{countIn}
 use Rattle.plain.specs.Answer.{_then_, accepted, refuse}
 use Rattle.plain.specs.Report.{accounts, filledWith, fillNeeds, listsOf, registers, settlements, share, valueOf, workNeeds}

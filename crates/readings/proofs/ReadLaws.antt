@@ -10,7 +10,7 @@ use Rattle.admission.specs.Replies.{replyTo}
 use Rattle.escrow.proofs.AmountCells.{free-in, held-in}
 use Rattle.escrow.specs.Amounts.{free, held}
 use Rattle.escrow.specs.Cells.{freeIn, heldIn}
-use Rattle.escrow.specs.Report.{shareOf}
+use Rattle.escrow.specs.Share.{shareOf}
 use Rattle.plain.specs.Answer.{Answer, accepted}
 use Rattle.plain.specs.Report.{Query, filledWith, listsOf, readAnswer, reportBy, valueOf}
 use Rattle.readings.specs.Inner.{SettlesFull, placesIn}

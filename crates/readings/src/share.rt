@@ -13,7 +13,7 @@ ghost use Rattle.readings.specs.Reading.{Reads};
 ghost use Rattle.settlement.specs.Tables.{buffers};
 ghost use Rattle.state.specs.State.{kept};
 
-// Tells it in thousandths, rounded down; 1000 where there is no transaction.
+// Tells it in thousandths, to the nearest and a tie to the even figure; 1000 where there is no transaction.
 pub fn share(
     ledger: Ledger,
     sheet: &[u8],

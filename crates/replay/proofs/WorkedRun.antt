@@ -9,7 +9,8 @@ use mathlib.Core.Path.{_∙_, _≡_, ap, refl}
 use Rattle.demand.specs.Chain.{noSheet, sheetWith}
 use Rattle.escrow.specs.Amounts.{coveredBy, credited, debitAt, free, freeBy, held, heldBy, partGood, reserved}
 use Rattle.escrow.specs.Outcome.{depth, fullView, judge, judgedTo, outcome, rowsOf, viewOf}
-use Rattle.escrow.specs.Report.{rowsAll, shareOf}
+use Rattle.escrow.specs.Report.{rowsAll}
+use Rattle.escrow.specs.Share.{nearest, shareOf, thousandths}
 use Rattle.fields.specs.Number.{le}
 use Rattle.frames.specs.Balances.{balancesOf, balancesOk, checkBalances}
 use Rattle.frames.specs.Block.{checkBlock, citesOf, cutOf}
@@ -72,7 +73,7 @@ unfolding frameAt le pick
 ends = (refl, refl)
 
 reported : reportOf wholeSheet logsLast ≡ wholeReport
-unfolding _then_ allTo amountOn answer anyTo appended blockAnswer blockEvents booked checkBlock citeAnswer cited citedBefore citesOf contracts counted coveredBy credited cutOf debitAt depth entryAt entryOff eventAt failed firstTo frameAt free freeBy frontAnswer fullView given globalLog hasPart held heldBy historyOf home idleAnswer isCite isContract isFail judge judgedTo lastEntry lastRank le leastFrom lentAnswer logEvents logTo next offerNeeds operate operateTo operated outcome parse partGood parts payment pick refuse reportBy reportOf reserved rowsAll rowsOf runAll seek settled shareOf status step sumTo tabulate unusedSet valuesAnswer viewLog viewOf viewSum
+unfolding _then_ allTo amountOn answer anyTo appended blockAnswer blockEvents booked checkBlock citeAnswer cited citedBefore citesOf contracts counted coveredBy credited cutOf debitAt depth entryAt entryOff eventAt failed firstTo frameAt free freeBy frontAnswer fullView given globalLog hasPart held heldBy historyOf home idleAnswer isCite isContract isFail judge judgedTo lastEntry lastRank le leastFrom lentAnswer logEvents logTo next offerNeeds operate operateTo operated outcome parse partGood parts payment pick refuse reportBy reportOf reserved rowsAll rowsOf runAll seek settled shareOf thousandths nearest status step sumTo tabulate unusedSet valuesAnswer viewLog viewOf viewSum
 reported = refl
 
 -- a block that is accepted: its line, then the rest

@@ -9,7 +9,7 @@ ghost use Rattle.rugxeni.specs.Boundary.{ReadCall};
 ghost use Rattle.settlement.specs.Tables.{buffers};
 ghost use Rattle.state.specs.State.{kept};
 
-// The share, in thousandths, as the second number told.
+// The share as the second number told: settled transactions in thousandths of all, to the nearest and a tie to the even figure; 1000 where there are none.
 #[no_mangle]
 pub extern "C" fn rugxeni_share(
     numbers: &[u16],

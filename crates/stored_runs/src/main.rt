@@ -145,7 +145,8 @@ fn main() {
     let rules = group(b"rules", edges);
     let empty = group(b"empty", rules);
     let empty_views = group(b"empty_views", empty);
-    let cut_off = group(b"cut_off", empty_views);
+    let share = group(b"share", empty_views);
+    let cut_off = group(b"cut_off", share);
     let sheets = group(b"sheets", cut_off);
     let slips = group(b"slips", sheets);
     let blocks = group(b"blocks", slips);

@@ -146,10 +146,10 @@ pub record TailFits (r : Report) : Type 0 where
   pub frees : Below 18446744073709551616 (r .free)
   pub helds : Below 18446744073709551616 (r .held)
   pub values : Below 4294967296 (r .registers)
-  pub thousandths : r .share < 4294967296
+  pub shares : r .share < 4294967296
 
 pub tail-short : (r : Report) → TailFits r → length (tailText r) ≤ 107985
 unfolding listsOf valueOf
 tail-short r f = rw (tail-of r _ _ _ _ _ _ refl refl refl refl) at
     (lists-short (map (λ (b : Ref). b .instance) (r .log)) (map (λ (b : Ref). b .index + 1) (r .log)) (map codeOf (r .settlements)) (r .free) (r .held) (r .registers) (r .share)
-    (simp length-map (f .blocks)) (simp length-map (f .transactions)) (f .accounts) (f .cells) (f .instances) (f .numbers) (f .frees) (f .helds) (f .values) (f .thousandths))
+    (simp length-map (f .blocks)) (simp length-map (f .transactions)) (f .accounts) (f .cells) (f .instances) (f .numbers) (f .frees) (f .helds) (f .values) (f .shares))

@@ -3,12 +3,15 @@
 
 #[path = "wrong/last.rs"]
 mod last;
+#[path = "wrong/rounding.rs"]
+mod rounding;
 
 use crosscheck::engine::format::{self, slip_at};
 use crosscheck::engine::Block;
 use crosscheck_library::subject::Readings;
 use crosscheck_library::{bytes, check, numbers, Counts, Subject};
 use last::Last;
+use rounding::Rounding;
 use rugxeni::{Account, Ledger, Loading, Offer, Refusal};
 
 /// The gate compares the library on so many seeds.
@@ -43,6 +46,8 @@ enum Fault {
     AtTheLast(Last),
     /// Is wrong where an instance has delivered nothing.
     WhereEmpty(Empty),
+    /// Rounds the share otherwise.
+    Rounds(Rounding),
 }
 
 /// Where an instance has no block, document 01 had an empty log; request 04
@@ -223,6 +228,7 @@ impl Subject for Wrong {
                     readings.accounts.map(|list| list.into_iter().map(spend).collect());
             }
             Fault::AtTheLast(fault) => self.sheet.readings(fault, &mut readings),
+            Fault::Rounds(rounding) => rounding::rounded(rounding, &mut readings),
             Fault::WhereEmpty(Empty::NotInPrint) => readings.log = self.judge.readings().log,
             Fault::WhereEmpty(Empty::InPrint) => {
                 readings = Readings { log: readings.log, ..self.judge.readings() };
@@ -260,6 +266,11 @@ fn each_fault_about_empty_instances_is_found() {
 }
 
 #[test]
+fn each_fault_of_rounding_is_found() {
+    assert_found(rounding::WRONG.map(Fault::Rounds));
+}
+
+#[test]
 fn each_fault_at_a_last_place_is_found() {
     assert_found(last::ALL.map(Fault::AtTheLast));
 }
@@ -268,4 +279,5 @@ fn each_fault_at_a_last_place_is_found() {
 fn without_a_fault_nothing_is_found() {
     assert_eq!(found(Fault::None), None);
     assert_eq!(found(Fault::AtTheLast(Last::Nothing)), None);
+    assert_eq!(found(Fault::Rounds(Rounding::Nearest)), None);
 }

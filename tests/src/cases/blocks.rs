@@ -116,7 +116,7 @@ fn twice_in_one_block() -> Case {
         run(&sheet(1, 0, &[1], &transactions), &blocks),
         "run 1 1 0 3\nrefused 15 2\nrefused 13 2\nok 0 1\nrefused 15 1\nlog 0 1\ntx 0 open\n\
          tx 1 paid\n\
-         tx 2 paid\naccount 0 1 0\nshare 666\n",
+         tx 2 paid\naccount 0 1 0\nshare 667\n",
     )
 }
 

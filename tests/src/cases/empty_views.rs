@@ -235,7 +235,7 @@ fn sixteen(rank: u32) -> Case {
         ),
         _ => format!(
             "{log}{paid}tx 14 open\ntx 15 returned\naccount 0 0 0\n{spent}\
-             account 14 0 1\naccount 15 14 0\nshare 937\n"
+             account 14 0 1\naccount 15 14 0\nshare 938\n"
         ),
     };
     case(

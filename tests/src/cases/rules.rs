@@ -70,7 +70,7 @@ pub fn rules() -> Vec<Case> {
         citation_order(),
         large_amounts(),
         highest_rank(),
-        share_rounds_down(),
+        share_is_the_nearest(),
     ]
 }
 
@@ -274,13 +274,13 @@ fn highest_rank() -> Case {
     )
 }
 
-/// 2 of 3 settled: 666.
-fn share_rounds_down() -> Case {
+/// 2 of 3 settled, 666.67: 667. (Before request 05 the share was rounded down.)
+fn share_is_the_nearest() -> Case {
     let transactions = vec![payment(&[(0, 1)], &[(0, 1)]); 3];
     case(
-        "share is rounded down",
+        "share is rounded to the nearest",
         run(&sheet(1, 0, &[1], &transactions), &[block(0, 1, 1, &[0], &[2, 0])]),
         "run 1 1 0 3\nok 0 1\nlog 0 1\ntx 0 paid\ntx 1 open\ntx 2 paid\naccount 0 1 0\n\
-         share 666\n",
+         share 667\n",
     )
 }

@@ -6,6 +6,8 @@
 //!
 //! Refusal 16 has no place here: nothing is lent to this engine.
 
+use std::cmp::Ordering;
+
 use super::format::{self, Block, Refusal};
 use super::rules::{self, Account, Outcomes, Picture, Status, View};
 use super::sheet::Sheet;
@@ -21,6 +23,8 @@ pub enum Answer {
 pub const MOST_BLOCKS: usize = 128;
 /// A block cites at most this many transactions.
 pub const MOST_CITATIONS: usize = 32;
+/// A share is given in thousandths: this many are the whole.
+pub const THOUSANDTHS: u32 = 1000;
 
 /// The instance logs. Block n of an instance stands at place n - 1.
 #[derive(Clone, Debug, PartialEq, Eq)]
@@ -218,18 +222,41 @@ impl Ledger {
         self.full_picture().settlements().to_vec()
     }
 
-    /// "settled transactions (paid or returned) in thousandths of t, rounded
-    /// down, 1000 if t is 0".
+    /// "settled transactions (paid or returned) in thousandths of t", rounded
+    /// as request 05 says.
     pub fn share(&self) -> u32 {
-        let t = u32::from(self.sheet.head.t);
         let settlements = self.settlements();
         let settled = settlements.iter().filter(|status| **status != Status::Open).count() as u32;
-        (settled * 1000).checked_div(t).unwrap_or(1000)
+        share(settled, self.sheet.head.t.into())
     }
 
     /// The global log of the full view, as (instance, sequence number).
     pub fn log(&self) -> Vec<(u16, u16)> {
         let log = rules::global_log(&self.logs, &View::full(&self.logs));
         log.iter().map(|block| (block.instance, block.number)).collect()
+    }
+}
+
+/// So many settled transactions of all, at most all, "in thousandths of t".
+///
+/// Request 05: "round to nearest, a tie to the even figure". "One settled of 16
+/// is 62.5 thousandths and prints 62; three of 16 is 187.5 and prints 188."
+pub fn share(settled: u32, all: u32) -> u32 {
+    // Document 01: "1000 if t is 0". Request 05: "t 0 still prints 1000".
+    if all == 0 {
+        return THOUSANDTHS;
+    }
+    let (all, thousandths) = (u64::from(all), u64::from(settled) * u64::from(THOUSANDTHS));
+    // The share is not below the one figure, and below the other.
+    let lower = (thousandths / all) as u32;
+    let upper = lower + 1;
+    // How far it is from either of them, both times `all`.
+    let above_lower = thousandths % all;
+    let below_upper = all - above_lower;
+    match above_lower.cmp(&below_upper) {
+        Ordering::Less => lower,
+        Ordering::Greater => upper,
+        Ordering::Equal if lower.is_multiple_of(2) => lower,
+        Ordering::Equal => upper,
     }
 }

@@ -8,6 +8,11 @@ use crate::engine::{write, Block, Cut, Logs, Sheet};
 
 /// The blocks of a run. Those that are not noise are all accepted.
 pub fn offers(random: &mut Random, sheet: &Sheet, pace: &Pace) -> Vec<Block> {
+    delivery(random, sheet, pace).offers
+}
+
+/// The delivery of such blocks, come to its end.
+pub fn delivery<'a>(random: &mut Random, sheet: &'a Sheet, pace: &'a Pace) -> Delivery<'a> {
     let mut delivery = Delivery::new(random, sheet, pace);
     let mut left = pace.budget;
     while delivery.offers.len() < pace.offers {
@@ -20,7 +25,7 @@ pub fn offers(random: &mut Random, sheet: &Sheet, pace: &Pace) -> Vec<Block> {
         }
         delivery.offer(block);
     }
-    delivery.offers
+    delivery
 }
 
 /// A delivery under way.
@@ -36,9 +41,10 @@ pub struct Delivery<'a> {
 
 impl<'a> Delivery<'a> {
     pub fn new(random: &mut Random, sheet: &'a Sheet, pace: &'a Pace) -> Delivery<'a> {
+        let cited = sheet.transactions.len() - pace.kept_back;
         let mut pool = |instance| {
             let here = |number: &u16| !sheet.part(usize::from(*number), instance).is_empty();
-            let mut pool: Vec<u16> = (0..sheet.head.t).filter(here).collect();
+            let mut pool: Vec<u16> = (0..cited as u16).filter(here).collect();
             pool.retain(|_| !random.chance(pace.forgotten));
             pool
         };

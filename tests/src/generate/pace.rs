@@ -34,6 +34,8 @@ pub struct Pace {
     pub(super) in_order: u64,
     /// Parts that are never cited, in percent.
     pub(super) forgotten: u64,
+    /// So many of the last transactions are not cited.
+    pub(super) kept_back: usize,
 }
 
 /// How ranks grow.
@@ -73,19 +75,7 @@ impl Pace {
         budget: usize,
         noise: u64,
     ) -> Pace {
-        let fill = sheet.instances() * MOST_BLOCKS;
-        let most = match size {
-            Size::Tiny => 12,
-            Size::Small if random.chance(6) => (fill + 8).min(400),
-            Size::Small => 60,
-            Size::Medium => 300,
-            Size::Large | Size::Largest => fill + 8,
-        };
-        let offers = match size {
-            // Every instance gets its 128 blocks.
-            Size::Largest => fill * 200 / (100 - noise.min(90)) as usize,
-            _ => random.within(0..=most as u64) as usize,
-        };
+        let offers = offers(random, sheet, size, noise);
         let ranks = [Ranks::Steps, Ranks::Coarse, Ranks::AboveCut, Ranks::Jumps, Ranks::Top];
         let cuts = [Cuts::Exact, Cuts::Exact, Cuts::Lagging, Cuts::Still, Cuts::Mixed];
         Pace {
@@ -103,6 +93,7 @@ impl Pace {
             most_citations: random.pick(&[1, 3, 8, 32]),
             in_order: random.pick(&[0, 80, 100]),
             forgotten: random.pick(&[0, 0, 5, 30]),
+            kept_back: 0,
         }
     }
 
@@ -155,8 +146,24 @@ impl Pace {
             most_citations: MOST_CITATIONS as u64,
             in_order: 100,
             forgotten: 0,
+            kept_back: 0,
         }
     }
+}
+
+/// How many blocks are offered.
+fn offers(random: &mut Random, sheet: &Sheet, size: Size, noise: u64) -> usize {
+    let fill = sheet.instances() * MOST_BLOCKS;
+    let most = match size {
+        Size::Tiny => 12,
+        Size::Small if random.chance(6) => (fill + 8).min(400),
+        Size::Small => 60,
+        Size::Medium => 300,
+        Size::Large => fill + 8,
+        // Every instance gets its 128 blocks.
+        Size::Largest => return fill * 200 / (100 - noise.min(90)) as usize,
+    };
+    random.within(0..=most as u64) as usize
 }
 
 /// Mostly all alike; sometimes a straggler, sometimes silent instances.

@@ -583,7 +583,8 @@ pub fn registers(
     }
 }
 
-/// The share, in thousandths, as the second number told.
+/// The share as the second number told: settled transactions in thousandths of all, to the nearest and a tie to the
+/// even figure; 1000 where there are none.
 ///
 /// A reading of the full view. The call returns 0, or a refusal's number with its place in `told`.
 ///

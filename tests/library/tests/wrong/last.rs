@@ -7,6 +7,8 @@ use crosscheck::engine::{write, Block, Head, Posting, Transaction};
 use crosscheck_library::subject::Readings;
 use rugxeni::{Offer, Refusal, Settlement};
 
+use super::rounding::{share, Rounding};
+
 #[derive(Clone, Copy, Debug, PartialEq)]
 pub enum Last {
     /// Nothing is wrong: sheet, blocks and log are as they are here.
@@ -216,10 +218,7 @@ impl Sheet {
             }
             Last::NotInTheShare => {
                 if let Ok(settlements) = &readings.settlements {
-                    let counted = settlements.iter().take(TRANSACTION);
-                    let settled = counted.filter(|status| **status != Settlement::Open).count();
-                    let share = (settled * 1000).checked_div(settlements.len()).unwrap_or(1000);
-                    readings.share = Ok(share as u32);
+                    readings.share = Ok(share(Rounding::Nearest, settlements, TRANSACTION));
                 }
             }
             Last::Nothing | Last::NotInTheBar | Last::HighestNotInTheLog | Last::BehindTheNext => {
