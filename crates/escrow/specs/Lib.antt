@@ -1,4 +1,4 @@
--- The rules of escrow, from a sheet and the instance logs; then what the engine's cells stand for; last, tools of the proofs.
+-- The rules of escrow, from a sheet and the instance logs, and what is claimed of the share; then what the engine's cells stand for; last, tools of the proofs.
 pub mod Amounts
 pub mod Outcome
 pub mod Share

@@ -26,7 +26,8 @@ fn settled_count(table: &[u8], z: Sizes) -> u32
     n
 }
 
-// s of t in thousandths, to the nearest and a tie to the even figure; 1000 where t is 0. Of any two numbers: beyond t there are more than 1000.
+// s of t in thousandths, to the nearest and a tie to the even figure; 1000 where t is 0. Any two numbers will do: with s above t the
+// figure may be as high as 1000 times s.
 pub fn thousandths(s: u32, t: u32) -> u64
     ensures { λ r. ⌜ r ≡ thousandths s t ⌝ }
 {
@@ -46,7 +47,7 @@ pub fn thousandths(s: u32, t: u32) -> u64
     q + q % 2
 }
 
-// At most 1000.
+// The share by a table's statuses; at most 1000.
 pub fn share_of(table: &[u8], z: Sizes) -> u32
     ensures { λ r. ⌜ r ≡ shareOf (z .t) (statusIn z (now (table .entry))) ⌝ }
 {
