@@ -1,7 +1,6 @@
 -- The share is the nearest thousandth, a tie to the even one, and no other figure is; what follows of it (`share-rules`).
 -- Assumes nothing.
 use Prim.Native.Nat.{_%_, _*_, _+_, _-_, _/_, _<_, _≤_, ℕ}
-use mathlib.Core.Bool.{Bool, false, true}
 use mathlib.Core.Path.{_∙_, _≡_, ap, refl, sym}
 use native.Mathlib.Decide.{decLt, ℕ-discrete}
 use native.Mathlib.Nat.{add-mul, div-add-mod', mod-lt, mul-comm, mul-le-mul-right, one-mul, zero-mul}
@@ -12,6 +11,7 @@ use Rattle.escrow.specs.Claim.{Nearest, ShareRules}
 use Rattle.escrow.specs.Share.{evenOf, nearest, settledCount, thousandths}
 use Rattle.settlement.specs.Contracts.{Status}
 use Rattle.sums.proofs.LoopLaws.{sum-most}
+use Rattle.sums.proofs.TestLaws.{flip-le}
 use Rattle.sums.specs.Test.{flip}
 
 next : (r d : ℕ) → r * d + d ≡ (r + 1) * d
@@ -135,12 +135,8 @@ only-none s t p l e = omega (arith, near s t p .not-low, ap (λ (x : ℕ). x * t
 
 -- ---- the count
 
-one-at-most : (b : Bool) → flip b ≤ 1
-one-at-most true = omega arith
-one-at-most false = omega arith
-
 counted : (t : ℕ) (st : ℕ → Status) → settledCount t st ≤ t
-counted t st = omega (arith, sum-most t 1 (λ x. flip (isPending (st x))) (λ x l. one-at-most (isPending (st x))))
+counted t st = omega (arith, sum-most t 1 (λ x. flip (isPending (st x))) (λ x l. flip-le (isPending (st x))))
 
 pub share-rules : ShareRules
 share-rules = record {

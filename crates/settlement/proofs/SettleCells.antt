@@ -30,7 +30,7 @@ use Rattle.sheets.specs.Parts.{isContract, parts}
 use Rattle.sheets.specs.Sheet.{sheetFrom, sheetIn, txCount}
 use Rattle.sums.proofs.LoopLaws.{sum-most}
 use Rattle.sums.proofs.SeqLaws.{fill-room, length-written}
-use Rattle.sums.proofs.TestLaws.{given-le, pick-false, pick-true}
+use Rattle.sums.proofs.TestLaws.{flip-le, given-le, pick-false, pick-true}
 use Rattle.sums.specs.Seq.{fill, written}
 use Rattle.sums.specs.Sum.{sumTo}
 use Rattle.sums.specs.Test.{flip, pick}
@@ -111,10 +111,6 @@ unfolding statusOf pick
 code-status pending = refl
 code-status paid = refl
 code-status returned = refl
-
-flip-le : (u : Bool) → flip u ≤ 1
-flip-le true = omega arith
-flip-le false = omega arith
 
 fail-le : (y : ℕ) (e : Event) → isFail y e ≤ 1
 unfolding isFail
