@@ -29,9 +29,9 @@ HEAD = re.compile(r"# (\w+)(?: \(([\w, ]+)\))?(?: \[(\w+)\.([\w-]+): ([\w-]+)\])
 # words and signs of code, to be counted
 WORD = re.compile(r"b?'(?:\\.|[^'])'|\w+|[<>=!]=|&&|\|\||\S")
 TABLE = "docs/generated/wrong-engines.md"
-# The public contracts that are records, by crate and file of specs/, with those that they are made of; and the claims on bar and log and on the share.
+# The public contracts that are records, by crate and file of specs/, with those that they are made of; and the claims on bar and log, on pairs and on the share.
 RECORDS = [
-    ("ordering", "Claim", ["LogOf", "LogRules"]),
+    ("ordering", "Claim", ["LogOf", "LogRules", "PairRules"]),
     ("escrow", "Claim", ["Nearest", "ShareRules"]),
     ("encoding", "Writing", ["Wrote"]),
     ("frames_load", "Load", ["Loads", "Adds", "LoadStep"]),

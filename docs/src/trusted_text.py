@@ -19,7 +19,7 @@ import generated  # noqa: E402
 TABLE = "docs/generated/trusted-text.md"
 GROUPS = [
     ("demand 3", [("demand", "Claim", "Demand")], []),
-    ("the bar and the global log", [("ordering", "Claim", "LogRules")], []),
+    ("the bar and the global log, and the comparison of pairs", [("ordering", "Claim", "LogRules"), ("ordering", "Claim", "PairRules")], []),
     ("the share", [("escrow", "Claim", "ShareRules")], []),
     ("the calls for loading, offers and readings", [], ["state", "offers", "readings", "account_records"]),
     ("the text of a reading", [], ["report"]),

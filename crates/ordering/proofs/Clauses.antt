@@ -1,11 +1,15 @@
--- What each clause of the claim on bar and log gives its reader. One law a clause: whoever loses a clause breaks its law.
+-- What each clause of the claims on bar and log and on the comparison of pairs gives its reader. One law a clause: whoever loses a clause breaks its law.
 -- Assumes nothing.
 use Prim.Native.Nat.{_+_, _<_, _≤_, ℕ}
 use lib.ListN.{length}
 use mathlib.Core.List.{[], _∷_}
+use mathlib.Core.Logic.{_↔_}
 use mathlib.Core.Path.{_≡_}
-use Rattle.ordering.specs.Claim.{Ascending, LogOf, LogRules, keyIn, timesIn}
+use Rattle.ordering.specs.declared.pair.Comparison.the-variants.{ComesAfter, ComesFirst, Neither}
+use Rattle.ordering.specs.declared.pair.Pair.{Pair}
+use Rattle.ordering.specs.Claim.{Ascending, LogOf, LogRules, PairRules, keyIn, timesIn}
 use Rattle.ordering.specs.Order.{barOf, globalLog, keyOf, lastOf, refOf}
+use Rattle.ordering.specs.Pairs.{barPair, compared, numberOf}
 use Rattle.ordering.specs.Table.{Climbs, usable}
 use Rattle.sums.specs.Seq.{All, Begins}
 use Rattle.sums.specs.Sum.{sumTo}
@@ -57,3 +61,27 @@ module _ (p : LogRules) where
 
   pub rules-of-example : (R : ℕ → ℕ → ℕ) (F : ℕ → ℕ) → F 0 ≡ 1 → R 0 0 ≡ 1 → F 1 ≡ 0 → (barOf 2 R F ≡ keyOf 1 1) × (globalLog 2 R F ≡ refOf 0 0 ∷ [])
   rules-of-example = p .example
+
+module _ (p : PairRules) where
+  -- with the next two laws: up to 16 instances the comparison is that of the numbers and nothing else
+  pub pairs-by-number : (a b : Pair) → a .instance < 16 → b .instance < 16 → (compared a b ≡ ComesFirst) ↔ (numberOf a < numberOf b)
+  pairs-by-number = p .first
+
+  pub pairs-after-number : (a b : Pair) → a .instance < 16 → b .instance < 16 → (compared a b ≡ ComesAfter) ↔ (numberOf b < numberOf a)
+  pairs-after-number = p .after
+
+  pub pairs-same-number : (a b : Pair) → a .instance < 16 → b .instance < 16 → (compared a b ≡ Neither) ↔ (numberOf a ≡ numberOf b)
+  pairs-same-number = p .neither
+
+  -- with the next two laws: of any pairs it is an order, in which one of two that differ comes first
+  pub pairs-turned : (a b : Pair) → (compared a b ≡ ComesFirst) ↔ (compared b a ≡ ComesAfter)
+  pairs-turned = p .turned
+
+  pub pairs-equal : (a b : Pair) → (compared a b ≡ Neither) ↔ ((a .rank ≡ b .rank) × (a .instance ≡ b .instance))
+  pairs-equal = p .equal
+
+  pub pairs-chain : (a b c : Pair) → compared a b ≡ ComesFirst → compared b c ≡ ComesFirst → compared a c ≡ ComesFirst
+  pairs-chain = p .chain
+
+  pub pairs-bar : (m : ℕ) (R : ℕ → ℕ → ℕ) (F : ℕ → ℕ) → ((j : ℕ) → 16 ≤ j → F j ≡ 0) → numberOf (barPair m R F) ≡ barOf m R F
+  pairs-bar = p .bar

@@ -10,9 +10,9 @@ use native.Mathlib.Decide.{decLt, ℕ-discrete}
 use native.Mathlib.Numerals.{add-one}
 use native.Mathlib.Omega.{arith}
 use Rattle.ordering.specs.Order.{ceilingOf, entryAt, keyOf, lastOf, logTo, refOf, seek}
-use Rattle.ordering.specs.Table.{nextOf}
 use Rattle.sums.proofs.TestLaws.{pick-false, pick-true}
 use Rattle.sums.specs.Seq.{only, onlyIf}
+use Rattle.sums.specs.Test.{pick}
 
 -- ---- the last block, what an instance allows, and its next key
 pub last-some : (f : ℕ → ℕ) (n : ℕ) → 0 < n → lastOf f n ≡ f (n - 1)
@@ -37,6 +37,10 @@ ceiling-some R F j h = ap (λ (r : ℕ). keyOf (r + 1) j) (last-some (R j) (F j)
 
 pub ceiling-none : (R : ℕ → ℕ → ℕ) (F : ℕ → ℕ) (j : ℕ) → F j ≤ 0 → ceilingOf R F j ≡ keyOf 1 j
 ceiling-none R F j h = ap (λ (r : ℕ). keyOf (r + 1) j) (last-none (R j) (F j) h)
+
+-- the key of the next block of instance j behind a cursor, or the bar b where there is none
+abbrev pub nextOf : (ℕ → ℕ → ℕ) → (ℕ → ℕ) → ℕ → (ℕ → ℕ) → ℕ → ℕ
+nextOf R F b C j = pick (ltb (C j) (F j)) (keyOf (R j (C j)) j) b
 
 pub next-some : (R : ℕ → ℕ → ℕ) (F : ℕ → ℕ) (b : ℕ) (C : ℕ → ℕ) (j n f r k : ℕ) → n ≡ C j → f ≡ F j → n < f → r ≡ R j n → k ≡ keyOf r j → k ≡ nextOf R F b C j
 next-some R F b C j n f r k en ef h er ek =

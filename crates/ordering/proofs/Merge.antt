@@ -10,10 +10,10 @@ use mathlib.Core.Path.{_∙_, _≡_, ap, ap₂, refl, subst, sym}
 use native.Mathlib.Decide.{decLt, ℕ-discrete}
 use native.Mathlib.Nat.{add-zero}
 use native.Mathlib.Omega.{arith}
-use Rattle.ordering.proofs.Laws.{entry-none, log-more, log-quiet, next-none, next-some, seek-one}
+use Rattle.ordering.proofs.Laws.{entry-none, log-more, log-quiet, next-none, next-some, nextOf, seek-one}
 use Rattle.ordering.proofs.Prefix.{Ascends, ascends-le, ascends-place}
 use Rattle.ordering.specs.Order.{Ref, barOf, entryAt, globalLog, keyOf, logTo, refOf, seek}
-use Rattle.ordering.specs.Table.{Ordered, blockId, countIn, nextOf}
+use Rattle.ordering.specs.Table.{Ordered, blockId, countIn}
 use Rattle.sums.proofs.SeqLaws.{fill-more, map-append}
 use Rattle.sums.specs.Seq.{fill, onlyIf}
 use Rattle.sums.proofs.LeastLaws.{le-least, least-found, least-le, least-le-start}

@@ -1,11 +1,16 @@
--- What the bar and the global log are, said of every view, without the way in which Order finds them: document 01, "Global log of a view", and request 04.
+-- What the bar and the global log are, said of every view, without the way in which Order finds them: document 01, "Global log of a view", and request 04;
+-- and what the comparison of pairs gives, by whichever way it is worked: request 06.
 -- Assumes nothing.
 use Prim.Native.Nat.{_+_, _<_, _≤_, ℕ}
 use lib.Dec.{eqb}
 use lib.ListN.{length}
 use mathlib.Core.List.{List, [], _∷_}
+use mathlib.Core.Logic.{_↔_}
 use mathlib.Core.Path.{_≡_}
+use Rattle.ordering.specs.declared.pair.Comparison.the-variants.{ComesAfter, ComesFirst, Neither}
+use Rattle.ordering.specs.declared.pair.Pair.{Pair}
 use Rattle.ordering.specs.Order.{Ref, barOf, globalLog, keyOf, lastOf, refOf}
+use Rattle.ordering.specs.Pairs.{barPair, compared, numberOf}
 use Rattle.ordering.specs.Table.{Climbs, usable}
 use Rattle.sums.specs.Seq.{All, Begins}
 use Rattle.sums.specs.Sum.{sumTo}
@@ -51,3 +56,15 @@ pub record LogRules : Type 0 where
   pub tables-grow : (R : ℕ → ℕ → ℕ) (F G : ℕ → ℕ) (j : ℕ) → F j ≤ G j → usable R F j ≤ usable R G j
   -- "With instance 0 at rank 1 and instance 1 empty the bar is (1, 1) and the block is in the log"
   pub example : (R : ℕ → ℕ → ℕ) (F : ℕ → ℕ) → F 0 ≡ 1 → R 0 0 ≡ 1 → F 1 ≡ 0 → (barOf 2 R F ≡ keyOf 1 1) × (globalLog 2 R F ≡ refOf 0 0 ∷ [])
+
+pub record PairRules : Type 0 where
+  -- "For ranks up to 2^32 and instances below 16 every answer is shown to be that of the number": here for every rank
+  pub first : (p q : Pair) → p .instance < 16 → q .instance < 16 → (compared p q ≡ ComesFirst) ↔ (numberOf p < numberOf q)
+  pub after : (p q : Pair) → p .instance < 16 → q .instance < 16 → (compared p q ≡ ComesAfter) ↔ (numberOf q < numberOf p)
+  pub neither : (p q : Pair) → p .instance < 16 → q .instance < 16 → (compared p q ≡ Neither) ↔ (numberOf p ≡ numberOf q)
+  -- of any two pairs, whatever their instances: turned round the answer is the other one, and only of two equal pairs it is neither; and the order is one
+  pub turned : (p q : Pair) → (compared p q ≡ ComesFirst) ↔ (compared q p ≡ ComesAfter)
+  pub equal : (p q : Pair) → (compared p q ≡ Neither) ↔ ((p .rank ≡ q .rank) × (p .instance ≡ q .instance))
+  pub chain : (p q s : Pair) → compared p q ≡ ComesFirst → compared q s ≡ ComesFirst → compared p s ≡ ComesFirst
+  -- the bar as a pair has the bar's number; a cut has sixteen counts
+  pub bar : (m : ℕ) (R : ℕ → ℕ → ℕ) (F : ℕ → ℕ) → ((j : ℕ) → 16 ≤ j → F j ≡ 0) → numberOf (barPair m R F) ≡ barOf m R F

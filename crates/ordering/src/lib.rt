@@ -1,23 +1,23 @@
-// The order of blocks by (rank, instance): keys, the bar, and the global log.
+// The order of blocks by (rank, instance): the bar and the global log.
+pub mod pair;
+
+use pair::Pair;
+use pair::comes_first;
+use pair::first_of;
+use pair::pair_above;
+use pair::pair_of;
 ghost use mathlib.Core.Path.{_≡_};
-ghost use Prim.Native.Nat.{_+_, _*_, min};
+ghost use Prim.Native.Nat.{_+_, _≤_, min};
 ghost use lib.ListN.{getD, set, length};
 ghost use mathlib.Core.List.{map};
 ghost use Rattle.sums.specs.Seq.{fill};
-ghost use Rattle.ordering.specs.Order.{keyOf, ceilingOf, barOf, globalLog};
-ghost use Rattle.ordering.specs.Table.{rankIn, countIn, blockId, nextOf, Ordered, climb, usable};
-ghost use Rattle.sums.specs.Least.{leastFrom};
+ghost use Rattle.ordering.specs.Order.{globalLog};
+ghost use Rattle.ordering.specs.Pairs.{ceilingPair, barPair, firstFrom, nextPair};
+ghost use Rattle.ordering.specs.Table.{rankIn, countIn, blockId, Ordered, climb, usable};
 
 pub struct Rank(pub u32);
 
 pub struct SequenceNumber(pub u16);
-
-// A rank and an instance as one number.
-pub fn key(rank: Rank, instance: u16) -> u64
-    ensures { λ r. ⌜ r ≡ keyOf (rank .0) instance ⌝ }
-{
-    (rank.0 as u64) * 16 + (instance as u64)
-}
 
 // The rank in slot `index` of an instance, 0 outside the table.
 pub fn rank_at(ranks: &[u32], instance: u16, index: u16) -> Rank
@@ -39,56 +39,50 @@ pub fn count_at(counts: [u16; 16], instance: u16) -> u16
     if at < 16 { counts[at] } else { 0 }
 }
 
-fn least(a: u64, b: u64) -> u64
-    ensures { λ r. ⌜ r ≡ min a b ⌝ }
-{
-    if a < b { a } else { b }
-}
-
 // What instance j allows: (its last rank + 1, j). Without a block its last rank counts as 0.
-fn ceiling(ranks: &[u32], full: [u16; 16], j: u16) -> u64
-    ensures { λ r. ⌜ r ≡ ceilingOf (rankIn (now (ranks .entry))) (countIn full) j ⌝ }
+fn ceiling(ranks: &[u32], full: [u16; 16], j: u16) -> Pair
+    ensures { λ r. ⌜ (r ≡ ceilingPair (rankIn (now (ranks .entry))) (countIn full) j) × (r .rank ≤ 4294967296) ⌝ }
 {
     let n = count_at(full, j);
     if n == 0 {
-        return key(Rank(0), j) + 16;
+        return pair_above(Rank(0), j);
     }
-    key(rank_at(ranks, j, n - 1), j) + 16
+    pair_above(rank_at(ranks, j, n - 1), j)
 }
 
 // The bar of a view.
-pub fn bar(m: u16, ranks: &[u32], full: [u16; 16]) -> u64
-    ensures { λ r. ⌜ r ≡ barOf m (rankIn (now (ranks .entry))) (countIn full) ⌝ }
+pub fn bar(m: u16, ranks: &[u32], full: [u16; 16]) -> Pair
+    ensures { λ r. ⌜ (r ≡ barPair m (rankIn (now (ranks .entry))) (countIn full)) × (r .rank ≤ 4294967296) ⌝ }
 {
     let mut low = ceiling(ranks, full, 0);
     let mut j: u16 = 0;
     while j < m {
-        low = least(low, ceiling(ranks, full, j));
+        low = first_of(low, ceiling(ranks, full, j));
         j += 1;
     }
     low
 }
 
-// The key of the next block of instance j, or the bar.
-fn next_of(ranks: &[u32], full: [u16; 16], stop: u64, cursors: [u16; 16], j: u16) -> u64
-    ensures { λ r. ⌜ r ≡ nextOf (rankIn (now (ranks .entry))) (countIn full) stop (countIn cursors) j ⌝ }
+// The pair of the next block of instance j, or the bar.
+fn next_of(ranks: &[u32], full: [u16; 16], stop: Pair, cursors: [u16; 16], j: u16) -> Pair
+    ensures { λ r. ⌜ r ≡ nextPair (rankIn (now (ranks .entry))) (countIn full) stop (countIn cursors) j ⌝ }
 {
     let n = count_at(cursors, j);
     if n < count_at(full, j) {
-        key(rank_at(ranks, j, n), j)
+        pair_of(rank_at(ranks, j, n), j)
     } else {
         stop
     }
 }
 
-// The least key of the instances' next blocks, or the bar.
-fn next_key(m: u16, ranks: &[u32], full: [u16; 16], stop: u64, cursors: [u16; 16]) -> u64
-    ensures { λ r. ⌜ r ≡ leastFrom stop (nextOf (rankIn (now (ranks .entry))) (countIn full) stop (countIn cursors)) m ⌝ }
+// The first of the instances' next blocks, or the bar.
+fn next_pair(m: u16, ranks: &[u32], full: [u16; 16], stop: Pair, cursors: [u16; 16]) -> Pair
+    ensures { λ r. ⌜ r ≡ firstFrom stop (nextPair (rankIn (now (ranks .entry))) (countIn full) stop (countIn cursors)) m ⌝ }
 {
     let mut low = stop;
     let mut j: u16 = 0;
     while j < m {
-        low = least(low, next_of(ranks, full, stop, cursors, j));
+        low = first_of(low, next_of(ranks, full, stop, cursors, j));
         j += 1;
     }
     low
@@ -113,15 +107,15 @@ pub fn global_log(m: u16, ranks: &[u32], full: [u16; 16], out: &mut [u16]) -> us
     let stop = bar(m, ranks, full);
     let mut cursors = [0u16; 16];
     let mut count: usize = 0;
-    let mut k = next_key(m, ranks, full, stop, cursors);
-    while k < stop {
-        let i = (k % 16) as u16;
+    let mut k = next_pair(m, ranks, full, stop, cursors);
+    while comes_first(k, stop) {
+        let i = k.instance;
         let n = count_at(cursors, i);
         put(out, count, i * 128 + n);
         let at = i as usize;
         cursors[at] = n + 1;
         count += 1;
-        k = next_key(m, ranks, full, stop, cursors);
+        k = next_pair(m, ranks, full, stop, cursors);
     }
     count
 }
