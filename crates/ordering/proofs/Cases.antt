@@ -4,14 +4,16 @@ use Prim.Native.Nat.{_+_, _<_, _≤_, min, suc, zero, ℕ}
 use borrow.Author.Tests.{le-ltb, lt-ltb, ltb-false, ltb-true}
 use lib.Dec.{ltb}
 use mathlib.Core.Bool.{Bool, false, true}
-use mathlib.Core.Path.{_∙_, _≡_, ap, ap₂, refl, sym}
-use native.Mathlib.Decide.{decLt}
+use mathlib.Core.Logic.{_⊎_, inl, inr}
+use mathlib.Core.Path.{_∙_, _≡_, ap, refl, subst, sym}
+use native.Mathlib.Decide.{decLt, ℕ-discrete}
 use native.Mathlib.Omega.{arith}
 use Rattle.ordering.specs.declared.pair.Comparison.{Comparison}
 use Rattle.ordering.specs.declared.pair.Comparison.the-variants.{ComesAfter, ComesFirst, Neither}
 use Rattle.ordering.specs.declared.pair.Pair.{Pair}
 use Rattle.ordering.specs.Order.{barOf, ceilingOf, keyOf}
-use Rattle.ordering.specs.Pairs.{barPair, ceilingPair, compared, firstFrom, firstOf, isFirst, nextPair, numberOf, pairOf}
+use Rattle.ordering.specs.Inner.{SameRank, nextPair}
+use Rattle.ordering.specs.Pairs.{barPair, ceilingPair, compared, firstFrom, firstOf, isFirst, numberOf, pairOf}
 use Rattle.ordering.proofs.Laws.{last-none, next-none, next-some, nextOf}
 use Rattle.sums.proofs.TestLaws.{by-pick, pick-false, pick-true}
 use Rattle.sums.specs.Fold.{foldTo}
@@ -165,3 +167,13 @@ module _ (R : ℕ → ℕ → ℕ) (F : ℕ → ℕ) (b : Pair) (C : ℕ → ℕ
     | yes h ↦ ap numberOf (sym (next-pair-some h)) ∙ next-some R F (numberOf b) C j (C j) (F j) (R j (C j)) (keyOf (R j (C j)) j) refl refl h refl refl
     | no h ↦ ap numberOf (sym (next-pair-none (omega arith))) ∙ next-none R F (numberOf b) C j (C j) (F j) refl refl (omega arith)
   ]
+
+-- what holds up to j and at j holds up to j + 1
+pub up-to : (P : ℕ → Type 0) (a j : ℕ) → ((i : ℕ) → a < i → i < j → P i) → P j → (i : ℕ) → a < i → i < j + 1 → P i
+up-to P a j h p i l u = elim (ℕ-discrete i j) [ yes e ↦ subst P (sym e) p | no e ↦ h i l (omega arith) ]
+
+-- what comes before the bar is not the bar
+pub level-first : {row : ℕ → Pair} {m : ℕ} {k r b : Pair} → (r ≡ b) ⊎ SameRank row m k r → isFirst (compared r b) ≡ true → SameRank row m k r
+level-first (inr l) t = l
+level-first {b = b} (inl e) t =
+    absurd (let w = ltb-true (numberOf b) (numberOf b) (sym (first-self b) ∙ ap (λ (p : Pair). isFirst (compared p b)) (sym e) ∙ t) in omega arith)

@@ -1,22 +1,25 @@
 -- The merge as the code has it: over pairs, where the laws of Merge are over their numbers.
 -- Assumes nothing.
-use Prim.Native.Nat.{_%_, _*_, _+_, _<_, _≤_, ℕ}
+use Prim.Native.Nat.{_%_, _*_, _+_, _-_, _<_, _≤_, ℕ}
 use borrow.Author.Tests.{ltb-false, ltb-true}
 use lib.Dec.{ltb}
 use lib.ListN.{length, set}
 use mathlib.Core.Bool.{Bool, false, true}
 use mathlib.Core.List.{List, map}
+use mathlib.Core.Logic.{_⊎_, inl, inr}
 use mathlib.Core.Path.{_∙_, _≡_, ap, refl, sym}
-use native.Mathlib.Decide.{decLt}
+use native.Mathlib.Decide.{decLt, ℕ-discrete}
 use native.Mathlib.Omega.{arith}
 use Rattle.ordering.specs.declared.pair.Pair.{Pair}
 use Rattle.ordering.specs.Order.{globalLog}
-use Rattle.ordering.specs.Pairs.{barPair, compared, firstFrom, isFirst, nextPair, numberOf}
+use Rattle.ordering.specs.Inner.{SameRank, nextPair}
+use Rattle.ordering.specs.Pairs.{barPair, compared, firstFrom, isFirst, numberOf}
 use Rattle.ordering.specs.Table.{Ordered, blockId, countIn}
-use Rattle.ordering.proofs.Cases.{bar-number, bar-small, first-below, first-self, firsts-all, firsts-number, next-number, of-next}
+use Rattle.ordering.proofs.Cases.{bar-number, bar-small, first-below, first-self, firsts-all, firsts-number, next-number, next-pair-none, next-pair-some, of-next}
 use Rattle.ordering.proofs.Cong.{least-cong}
-use Rattle.ordering.proofs.Laws.{nextOf}
+use Rattle.ordering.proofs.Laws.{next-none, nextOf}
 use Rattle.ordering.proofs.Merge.{Merging, cursor-below, merging-end, merging-later, merging-start, merging-turn}
+use Rattle.sums.proofs.LeastLaws.{le-least, least-le}
 use Rattle.sums.specs.Least.{leastFrom}
 use Rattle.sums.specs.Seq.{fill}
 
@@ -62,6 +65,75 @@ module _ (m : ℕ) (R : ℕ → ℕ → ℕ) (F : ℕ → ℕ) (ord : Ordered m 
     next-own =
         rw ek (firsts-all (OwnOr stop) stop (nextPair R F stop C) m (λ h. refl) (λ j l. of-next R F stop C j (OwnOr stop) (λ h i. absurd (omega (arith, small j (omega arith)))) (λ h. refl)))
 
+  -- what follows k, either way in which the code finds it
+  module _ (C : ℕ → ℕ) (k r : Pair) where
+    abbrev pub After : Type 0
+    After = (r ≡ firstFrom stop (nextPair R F stop C) m) ⊎ ((isFirst (compared r stop) ≡ true) × SameRank (nextPair R F stop C) m k r)
+
+    module _ (own : k .instance < 16) (later : numberOf k < leastFrom (numberOf stop) (nextOf R F (numberOf stop) C) m) where
+      module _ (t : isFirst (compared r stop) ≡ true) (l : SameRank (nextPair R F stop C) m k r) where
+        -- it is a block's pair
+        level-block : C (l .at) < F (l .at)
+        level-block = elim (decLt (C (l .at)) (F (l .at))) [
+          | yes h ↦ h
+          | no h ↦
+              let e = l .here ∙ sym (next-pair-none R F stop C (l .at) (omega arith)) in
+              absurd (let w = ltb-true (numberOf stop) (numberOf stop) (sym (first-self stop) ∙ ap (λ (p : Pair). isFirst (compared p stop)) (sym e) ∙ t) in omega arith)
+        ]
+
+        level-at : l .at < 16
+        level-at = small (l .at) (omega (arith, level-block))
+
+        level-number : numberOf r ≡ numberOf k - k .instance + l .at
+        level-number =
+            let e = l .here ∙ sym (next-pair-some R F stop C (l .at) level-block) in
+            omega (arith, ap (λ (p : Pair). p .instance) e, ap (λ (p : Pair). p .rank) (l .here), l .level)
+
+        level-below : numberOf r < numberOf stop
+        level-below =
+            let e = l .here ∙ sym (next-pair-some R F stop C (l .at) level-block) in
+            ltb-true (numberOf r) (numberOf stop) (sym (first-below r stop (omega (arith, level-at, ap (λ (p : Pair). p .instance) e)) stop-small) ∙ t)
+
+        level-least : (j : ℕ) → j < m → numberOf r ≤ nextOf R F (numberOf stop) C j
+        level-least j h = elim (decLt (C j) (F j)) [
+          | yes s ↦
+              let e = next-pair-some R F stop C j s in
+              let w = least-le (numberOf stop) (nextOf R F (numberOf stop) C) m j h in
+              let v = ap numberOf e ∙ next-number R F stop C j in
+              elim (decLt (k .instance) j) [
+                | yes b ↦ elim (decLt j (l .at)) [
+                  | yes u ↦ elim (ℕ-discrete (R j (C j)) (k .rank)) [
+                    | yes q ↦ absurd (l .none j b u (ap (λ (p : Pair). p .rank) (sym e) ∙ q))
+                    | no q ↦ omega (arith, level-number, level-at, small j (omega arith), own, later)
+                  ]
+                  | no u ↦ omega (arith, level-number, level-at, small j (omega arith), own, later)
+                ]
+                | no b ↦ omega (arith, level-number, level-at, small j (omega arith), own, later)
+              ]
+          | no s ↦ omega (arith, level-below, next-none R F (numberOf stop) C j (C j) (F j) refl refl (omega arith))
+        ]
+
+        level-is : numberOf r ≡ leastFrom (numberOf stop) (nextOf R F (numberOf stop) C) m
+        level-is =
+            let e = l .here ∙ sym (next-pair-some R F stop C (l .at) level-block) in
+            let a = le-least (numberOf stop) (nextOf R F (numberOf stop) C) m (numberOf r) (omega (arith, level-below)) level-least in
+            let b = least-le (numberOf stop) (nextOf R F (numberOf stop) C) m (l .at) (l .within) in
+            let v = ap numberOf (l .here) ∙ next-number R F stop C (l .at) in
+            omega arith
+
+        level-own : OwnOr stop r
+        level-own h =
+            let e = l .here ∙ sym (next-pair-some R F stop C (l .at) level-block) in
+            absurd (omega (arith, level-at, ap (λ (p : Pair). p .instance) e))
+
+      after-least : After → numberOf r ≡ leastFrom (numberOf stop) (nextOf R F (numberOf stop) C) m
+      after-least (inl e) = next-least C r e
+      after-least (inr l) = level-is (l .0) (l .1)
+
+      after-own : After → OwnOr stop r
+      after-own (inl e) = next-own C r e
+      after-own (inr l) = level-own (l .0) (l .1)
+
   -- the loop's test is that of the numbers
   test-number : (k : Pair) → OwnOr stop k → isFirst (compared k stop) ≡ ltb (numberOf k) (numberOf stop)
   test-number k own = elim (decLt (k .instance) 16) [
@@ -93,17 +165,20 @@ module _ (m : ℕ) (R : ℕ → ℕ → ℕ) (F : ℕ → ℕ) (ord : Ordered m 
         pub pair-cursor : n < 128
         pair-cursor = cursor-at m R F ord small (numberOf stop) first cursors out count (numberOf k) (inv .numbers) pair-below (k .instance) n at en
 
-        module _ (k' : Pair) (ek : k' ≡ firstFrom stop (nextPair R F stop (countIn (set cursors (k .instance) (n + 1)))) m) where
+        module _ (k' : Pair) (ek : After (countIn (set cursors (k .instance) (n + 1))) k k') where
+          later' : numberOf k + 1 ≤ leastFrom (numberOf stop) (nextOf R F (numberOf stop) (countIn (set cursors (k .instance) (n + 1)))) m
+          later' = later-at m R F ord small (numberOf stop) first cursors out count (numberOf k) (inv .numbers) pair-below (k .instance) n at en
+
           least' : numberOf k' ≡ leastFrom (numberOf stop) (nextOf R F (numberOf stop) (countIn (set cursors (k .instance) (n + 1)))) m
-          least' = next-least (countIn (set cursors (k .instance) (n + 1))) k' ek
+          least' = after-least (countIn (set cursors (k .instance) (n + 1))) k k' pair-own (omega (arith, later')) ek
 
           pub pair-later : numberOf k < numberOf k'
-          pair-later = omega (arith, least', later-at m R F ord small (numberOf stop) first cursors out count (numberOf k) (inv .numbers) pair-below (k .instance) n at en)
+          pair-later = omega (arith, least', later')
 
           pub pair-turn : (out' : List ℕ) → out' ≡ set out count (k .instance * 128 + n) → MergingPairs m R F stop first (set cursors (k .instance) (n + 1)) out' (count + 1) k'
           pair-turn out' eo = record {
             is-bar = es;
-            own = next-own (countIn (set cursors (k .instance) (n + 1))) k' ek;
+            own = after-own (countIn (set cursors (k .instance) (n + 1))) k k' pair-own (omega (arith, later')) ek;
             numbers = turn-at m R F ord small (numberOf stop) first cursors out count (numberOf k) (inv .numbers) pair-below (k .instance) n at en (numberOf k') out' least' eo;
           }
 

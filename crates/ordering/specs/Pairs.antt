@@ -45,7 +45,3 @@ ceilingPair R F j = pairOf (lastOf (R j) (F j) + 1) j
 -- the bar as a pair: the first of what the instances allow
 abbrev pub barPair : ℕ → (ℕ → ℕ → ℕ) → (ℕ → ℕ) → Pair
 barPair m R F = firstFrom (ceilingPair R F 0) (ceilingPair R F) m
-
--- the pair of the next block of instance j behind a cursor, or the bar b where there is none
-abbrev pub nextPair : (ℕ → ℕ → ℕ) → (ℕ → ℕ) → Pair → (ℕ → ℕ) → ℕ → Pair
-nextPair R F b C j = pick (ltb (C j) (F j)) (pairOf (R j (C j)) j) b

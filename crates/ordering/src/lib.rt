@@ -6,13 +6,17 @@ use pair::comes_first;
 use pair::first_of;
 use pair::pair_above;
 use pair::pair_of;
+use pair::same_rank;
+ghost use mathlib.Core.Bool.{true};
+ghost use mathlib.Core.Logic.{_⊎_};
 ghost use mathlib.Core.Path.{_≡_};
-ghost use Prim.Native.Nat.{_+_, _≤_, min};
+ghost use Prim.Native.Nat.{_+_, _<_, _≤_, min};
 ghost use lib.ListN.{getD, set, length};
 ghost use mathlib.Core.List.{map};
 ghost use Rattle.sums.specs.Seq.{fill};
 ghost use Rattle.ordering.specs.Order.{globalLog};
-ghost use Rattle.ordering.specs.Pairs.{ceilingPair, barPair, firstFrom, nextPair};
+ghost use Rattle.ordering.specs.Pairs.{ceilingPair, barPair, compared, firstFrom, isFirst};
+ghost use Rattle.ordering.specs.Inner.{SameRank, nextPair};
 ghost use Rattle.ordering.specs.Table.{rankIn, countIn, blockId, Ordered, climb, usable};
 
 pub struct Rank(pub u32);
@@ -63,12 +67,20 @@ pub fn bar(m: u16, ranks: &[u32], full: [u16; 16]) -> Pair
     low
 }
 
-// The pair of the next block of instance j, or the bar.
-fn next_of(ranks: &[u32], full: [u16; 16], stop: Pair, cursors: [u16; 16], j: u16) -> Pair
-    ensures { λ r. ⌜ r ≡ nextPair (rankIn (now (ranks .entry))) (countIn full) stop (countIn cursors) j ⌝ }
+// The count of an instance, 0 past the end.
+fn count_in(counts: &[u16], instance: u16) -> u16
+    ensures { λ r. ⌜ r ≡ countIn (now (counts .entry)) instance ⌝ }
 {
-    let n = count_at(cursors, j);
-    if n < count_at(full, j) {
+    let at = instance as usize;
+    if at < counts.len() { counts[at] } else { 0 }
+}
+
+// The pair of the next block of instance j, or the bar.
+fn next_of(ranks: &[u32], full: &[u16], stop: Pair, cursors: &[u16], j: u16) -> Pair
+    ensures { λ r. ⌜ r ≡ nextPair (rankIn (now (ranks .entry))) (countIn (now (full .entry))) stop (countIn (now (cursors .entry))) j ⌝ }
+{
+    let n = count_in(cursors, j);
+    if n < count_in(full, j) {
         pair_of(rank_at(ranks, j, n), j)
     } else {
         stop
@@ -76,8 +88,8 @@ fn next_of(ranks: &[u32], full: [u16; 16], stop: Pair, cursors: [u16; 16], j: u1
 }
 
 // The first of the instances' next blocks, or the bar.
-fn next_pair(m: u16, ranks: &[u32], full: [u16; 16], stop: Pair, cursors: [u16; 16]) -> Pair
-    ensures { λ r. ⌜ r ≡ firstFrom stop (nextPair (rankIn (now (ranks .entry))) (countIn full) stop (countIn cursors)) m ⌝ }
+fn next_pair(m: u16, ranks: &[u32], full: &[u16], stop: Pair, cursors: &[u16]) -> Pair
+    ensures { λ r. ⌜ r ≡ firstFrom stop (nextPair (rankIn (now (ranks .entry))) (countIn (now (full .entry))) stop (countIn (now (cursors .entry)))) m ⌝ }
 {
     let mut low = stop;
     let mut j: u16 = 0;
@@ -86,6 +98,38 @@ fn next_pair(m: u16, ranks: &[u32], full: [u16; 16], stop: Pair, cursors: [u16; 
         j += 1;
     }
     low
+}
+
+// The next block of k's own rank, of an instance above k's; the bar where there is none.
+fn next_same_rank(m: u16, ranks: &[u32], full: &[u16], stop: Pair, cursors: &[u16], k: Pair) -> Pair
+    requires { ⌜ k .instance < 16 ⌝ }
+    ensures { λ r. ⌜ (r ≡ stop)
+        ⊎ SameRank (nextPair (rankIn (now (ranks .entry))) (countIn (now (full .entry))) stop (countIn (now (cursors .entry)))) m k r ⌝ }
+{
+    let mut j = (k.instance as u16) + 1;
+    while j < m {
+        let next = next_of(ranks, full, stop, cursors, j);
+        if same_rank(next, k) {
+            return next;
+        }
+        j += 1;
+    }
+    stop
+}
+
+// What follows k, where k comes before all that is left: at equal ranks the lower instance comes first, so one of k's own rank if there is one
+// before the bar, and else the first of all.
+fn pair_after(m: u16, ranks: &[u32], full: &[u16], stop: Pair, cursors: &[u16], k: Pair) -> Pair
+    requires { ⌜ k .instance < 16 ⌝ }
+    ensures { λ r. ⌜ (r ≡ firstFrom stop (nextPair (rankIn (now (ranks .entry))) (countIn (now (full .entry))) stop (countIn (now (cursors .entry)))) m)
+        ⊎ ((isFirst (compared r stop) ≡ true)
+        × SameRank (nextPair (rankIn (now (ranks .entry))) (countIn (now (full .entry))) stop (countIn (now (cursors .entry)))) m k r) ⌝ }
+{
+    let near = next_same_rank(m, ranks, full, stop, cursors, k);
+    if comes_first(near, stop) {
+        return near;
+    }
+    next_pair(m, ranks, full, stop, cursors)
 }
 
 // Stores v where the buffer has the place.
@@ -107,15 +151,15 @@ pub fn global_log(m: u16, ranks: &[u32], full: [u16; 16], out: &mut [u16]) -> us
     let stop = bar(m, ranks, full);
     let mut cursors = [0u16; 16];
     let mut count: usize = 0;
-    let mut k = next_pair(m, ranks, full, stop, cursors);
+    let mut k = next_pair(m, ranks, &full, stop, &cursors);
     while comes_first(k, stop) {
-        let i = k.instance;
+        let i = k.instance as u16;
         let n = count_at(cursors, i);
         put(out, count, i * 128 + n);
         let at = i as usize;
         cursors[at] = n + 1;
         count += 1;
-        k = next_pair(m, ranks, full, stop, cursors);
+        k = pair_after(m, ranks, &full, stop, &cursors, k);
     }
     count
 }

@@ -2,13 +2,14 @@
 use crate::Rank;
 ghost use mathlib.Core.Path.{_≡_};
 ghost use Prim.Native.Nat.{_+_};
+ghost use lib.Dec.{eqb};
 ghost use Rattle.ordering.specs.Pairs.{pairOf, compared, isFirst, firstOf};
 
 // The rank and the instance of a block, or those of the bar. The bar's rank is a last rank + 1, so it may be 2^32, which no `Rank` is: hence 64 bits.
 // Of `pair_of` and `pair_above` alone is a pair to be had, and these take a `Rank`: there is none of a sequence number.
 pub struct Pair {
     rank: u64,
-    pub instance: u16,
+    pub instance: u64,
 }
 
 // What is said of the first of two pairs.
@@ -24,7 +25,7 @@ pub fn pair_of(rank: Rank, instance: u16) -> Pair
 {
     Pair {
         rank: rank.0 as u64,
-        instance: instance,
+        instance: instance as u64,
     }
 }
 
@@ -34,7 +35,7 @@ pub fn pair_above(rank: Rank, instance: u16) -> Pair
 {
     Pair {
         rank: (rank.0 as u64) + 1,
-        instance: instance,
+        instance: instance as u64,
     }
 }
 
@@ -66,6 +67,13 @@ pub fn comes_first(a: Pair, b: Pair) -> bool
         Comparison::ComesAfter => false,
         Comparison::Neither => false,
     }
+}
+
+// Whether two pairs have the same rank.
+pub fn same_rank(a: Pair, b: Pair) -> bool
+    ensures { λ r. ⌜ r ≡ eqb (a .rank) (b .rank) ⌝ }
+{
+    a.rank == b.rank
 }
 
 // The one of two pairs that comes first.

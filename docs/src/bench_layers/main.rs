@@ -92,4 +92,16 @@ fn main() {
         });
         println!("  plain computation   best {best:8.1} us   median {median:8.1} us");
     }
+
+    let mut apart = full;
+    for (cell, rank) in apart.ranks.iter_mut().enumerate() {
+        *rank = (16 * (1_000 * (cell % 128) + r.below(1_000) as usize) + cell / 128 + 1) as u32;
+    }
+    same(&apart, 4096);
+    let mut buffers = Buffers::new(&apart);
+    println!("16 x 128 blocks, no two of the same rank");
+    let (best, median) = timed(2000, || {
+        std::hint::black_box(buffers.log(&apart, 128));
+    });
+    println!("  global log          best {best:8.1} us   median {median:8.1} us");
 }

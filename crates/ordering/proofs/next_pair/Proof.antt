@@ -2,7 +2,8 @@ use Prim.Native.Nat.{_-_, _≤_}
 use borrow.Author.Needs.{needs}
 use mathlib.Core.Path.{_∙_, _≡_, ap, sym}
 use native.Mathlib.Omega.{arith}
-use Rattle.ordering.specs.Pairs.{firstFrom, firstOf, nextPair}
+use Rattle.ordering.specs.Inner.{nextPair}
+use Rattle.ordering.specs.Pairs.{firstFrom, firstOf}
 use Rattle.ordering.specs.Table.{countIn, rankIn}
 use Rattle.sums.proofs.LoopLaws.{fold-done, fold-none, fold-turn}
 use Rattle.ordering.proofs.next_pair.Statement.{statement}
