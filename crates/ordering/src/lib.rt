@@ -11,7 +11,7 @@ ghost use mathlib.Core.Bool.{true};
 ghost use mathlib.Core.Logic.{_⊎_};
 ghost use mathlib.Core.Path.{_≡_};
 ghost use Prim.Native.Nat.{_+_, _<_, _≤_, min};
-ghost use lib.ListN.{getD, set, length};
+ghost use lib.ListN.{set, length};
 ghost use mathlib.Core.List.{map};
 ghost use Rattle.sums.specs.Seq.{fill};
 ghost use Rattle.ordering.specs.Order.{globalLog};

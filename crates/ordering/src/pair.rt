@@ -6,6 +6,7 @@ ghost use lib.Dec.{eqb};
 ghost use Rattle.ordering.specs.Pairs.{pairOf, compared, isFirst, firstOf};
 
 // The rank and the instance of a block, or those of the bar. The bar's rank is a last rank + 1, so it may be 2^32, which no `Rank` is: hence 64 bits.
+// The instance has as many, so that a pair has no gap and stays in registers.
 // Of `pair_of` and `pair_above` alone is a pair to be had, and these take a `Rank`: there is none of a sequence number.
 pub struct Pair {
     rank: u64,
