@@ -1,23 +1,25 @@
 -- The comparison of pairs by cases gives what the numbers give (request 06).
 -- Assumes nothing.
-use Prim.Native.Nat.{_+_, _<_, _≤_, min, suc, zero, ℕ}
+use Prim.Native.Nat.{_+_, _-_, _<_, _≤_, min, suc, zero, ℕ}
 use borrow.Author.Tests.{le-ltb, lt-ltb, ltb-false, ltb-true}
 use lib.Dec.{ltb}
 use mathlib.Core.Bool.{false, true}
-use mathlib.Core.Logic.{_⊎_, inl, inr}
-use mathlib.Core.Path.{_∙_, _≡_, ap, refl, subst, sym}
-use native.Mathlib.Decide.{decLt, ℕ-discrete}
+use mathlib.Core.List.{[], _∷_}
+use mathlib.Core.Path.{_∙_, _≡_, ap, ap₂, refl, sym}
+use native.Mathlib.Decide.{decLt}
 use native.Mathlib.Omega.{arith}
 use Rattle.ordering.specs.declared.pair.Comparison.{Comparison}
 use Rattle.ordering.specs.declared.pair.Comparison.the-variants.{ComesAfter, ComesFirst, Neither}
 use Rattle.ordering.specs.declared.pair.Pair.{Pair}
 use Rattle.ordering.specs.Order.{barOf, ceilingOf, keyOf}
-use Rattle.ordering.specs.Inner.{SameRank, nextPair}
+use Rattle.ordering.specs.Inner.{nextPair}
 use Rattle.ordering.specs.Pairs.{barPair, ceilingPair, compared, firstFrom, firstOf, isFirst, numberOf, pairOf}
 use Rattle.ordering.proofs.Laws.{last-none, next-none, next-some, nextOf}
-use Rattle.sums.proofs.TestLaws.{by-pick, pick-false, pick-true}
+use Rattle.sums.proofs.LoopLaws.{fold-turn}
+use Rattle.sums.proofs.TestLaws.{by-pick}
 use Rattle.sums.specs.Fold.{foldTo}
 use Rattle.sums.specs.Least.{leastFrom}
+use Rattle.sums.specs.Seq.{tabulate}
 use Rattle.sums.specs.Test.{pick}
 
 -- ---- two pairs
@@ -108,6 +110,25 @@ firsts-number b f (suc n) s h =
     first-number (firstFrom b f n) (f n) (firsts-all (λ p. p .instance ≤ 16) b f n s (λ j l. h j (omega arith))) (h n (omega arith))
     ∙ ap (λ (k : ℕ). min k (numberOf (f n))) (firsts-number b f n s (λ j l. h j (omega arith)))
 
+-- it hangs on the pairs alone
+pub firsts-cong : (b : Pair) (f g : ℕ → Pair) (n : ℕ) → ((j : ℕ) → j < n → f j ≡ g j) → firstFrom b f n ≡ firstFrom b g n
+unfolding foldTo
+firsts-cong b f g zero h = refl
+firsts-cong b f g (suc n) h = ap₂ firstOf (firsts-cong b f g n (λ j l. h j (omega arith))) (h n (omega arith))
+
+-- a turn of a loop that goes through the row from place p on
+pub firsts-turn : (b : Pair) (f : ℕ → Pair) (p j : ℕ) (low v r : Pair) → p ≤ j → low ≡ firstFrom b (λ a. f (p + a)) (j - p) → v ≡ f j → r ≡ firstOf low v
+    → r ≡ firstFrom b (λ a. f (p + a)) (j + 1 - p)
+firsts-turn b f p j low v r h el ev er =
+    let here : j ≡ p + (j - p) = omega arith in
+    let next : j + 1 - p ≡ j - p + 1 = omega arith in
+    rw next (fold-turn (λ a q. firstOf q (f (p + a))) (j - p) b low r el (er ∙ ap (firstOf low) (ev ∙ ap f here)))
+
+-- four pairs one after the other are the row of the four
+pub four : (f : ℕ → Pair) (a b c d : Pair) → a ≡ f 0 → b ≡ f 1 → c ≡ f 2 → d ≡ f 3 → a ∷ b ∷ c ∷ d ∷ [] ≡ tabulate 4 f
+unfolding tabulate
+four f a b c d ea eb ec ed = rw (ea, eb, ec, ed) refl
+
 -- ---- the bar
 
 -- The bar of the first n instances. Only those below 16 have blocks, so that those from 16 on allow (1, 16), (1, 17) and so on, of which the first is the least;
@@ -152,28 +173,18 @@ module _ (R : ℕ → ℕ → ℕ) (F : ℕ → ℕ) (none : (j : ℕ) → 16 �
 -- ---- the pair of an instance's next block
 
 module _ (R : ℕ → ℕ → ℕ) (F : ℕ → ℕ) (b : Pair) (C : ℕ → ℕ) (j : ℕ) where
+  -- what holds of a block's pair where there is one, and of the bar where there is none
+  pub of-next : (P : Pair → Type 0) → (C j < F j → P (pairOf (R j (C j)) j)) → (F j ≤ C j → P b) → P (nextPair R F b C j)
+  of-next P some none = by-pick P (ltb (C j) (F j)) (λ t. some (ltb-true (C j) (F j) t)) (λ t. none (ltb-false (C j) (F j) t))
+
   pub next-pair-some : C j < F j → pairOf (R j (C j)) j ≡ nextPair R F b C j
-  next-pair-some h = sym (pick-true (ltb (C j) (F j)) (pairOf (R j (C j)) j) b (lt-ltb (C j) (F j) h))
+  next-pair-some h = of-next (λ p. pairOf (R j (C j)) j ≡ p) (λ l. refl) (λ l. absurd (omega arith))
 
   pub next-pair-none : F j ≤ C j → b ≡ nextPair R F b C j
-  next-pair-none h = sym (pick-false (ltb (C j) (F j)) (pairOf (R j (C j)) j) b (le-ltb (C j) (F j) h))
-
-  -- what holds of a block's pair and of the bar
-  pub of-next : (P : Pair → Type 0) → (C j < F j → P (pairOf (R j (C j)) j)) → P b → P (nextPair R F b C j)
-  of-next P some none = by-pick P (ltb (C j) (F j)) (λ t. some (ltb-true (C j) (F j) t)) (λ t. none)
+  next-pair-none h = of-next (λ p. b ≡ p) (λ l. absurd (omega arith)) (λ l. refl)
 
   pub next-number : numberOf (nextPair R F b C j) ≡ nextOf R F (numberOf b) C j
-  next-number = elim (decLt (C j) (F j)) [
-    | yes h ↦ ap numberOf (sym (next-pair-some h)) ∙ next-some R F (numberOf b) C j (C j) (F j) (R j (C j)) (keyOf (R j (C j)) j) refl refl h refl refl
-    | no h ↦ ap numberOf (sym (next-pair-none (omega arith))) ∙ next-none R F (numberOf b) C j (C j) (F j) refl refl (omega arith)
-  ]
-
--- what holds up to j and at j holds up to j + 1
-pub up-to : (P : ℕ → Type 0) (a j : ℕ) → ((i : ℕ) → a < i → i < j → P i) → P j → (i : ℕ) → a < i → i < j + 1 → P i
-up-to P a j h p i l u = elim (ℕ-discrete i j) [ yes e ↦ subst P (sym e) p | no e ↦ h i l (omega arith) ]
-
--- what comes before the bar is not the bar
-pub level-first : {row : ℕ → Pair} {m : ℕ} {k r b : Pair} → (r ≡ b) ⊎ SameRank row m k r → isFirst (compared r b) ≡ true → SameRank row m k r
-level-first (inr l) t = l
-level-first {b = b} (inl e) t =
-    absurd (let w = ltb-true (numberOf b) (numberOf b) (sym (first-self b) ∙ ap (λ (p : Pair). isFirst (compared p b)) (sym e) ∙ t) in omega arith)
+  next-number =
+      of-next (λ p. numberOf p ≡ nextOf R F (numberOf b) C j)
+      (λ h. next-some R F (numberOf b) C j (C j) (F j) (R j (C j)) (keyOf (R j (C j)) j) refl refl h refl refl)
+      (λ h. next-none R F (numberOf b) C j (C j) (F j) refl refl h)

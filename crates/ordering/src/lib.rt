@@ -6,22 +6,22 @@ use pair::comes_first;
 use pair::first_of;
 use pair::pair_above;
 use pair::pair_of;
-use pair::same_rank;
-ghost use mathlib.Core.Bool.{true};
-ghost use mathlib.Core.Logic.{_⊎_};
 ghost use mathlib.Core.Path.{_≡_};
 ghost use Prim.Native.Nat.{_+_, _<_, _≤_, min};
 ghost use lib.ListN.{set, length};
 ghost use mathlib.Core.List.{map};
-ghost use Rattle.sums.specs.Seq.{fill};
+ghost use Rattle.sums.specs.Seq.{fill, tabulate};
 ghost use Rattle.ordering.specs.Order.{globalLog};
-ghost use Rattle.ordering.specs.Pairs.{ceilingPair, barPair, compared, firstFrom, isFirst};
-ghost use Rattle.ordering.specs.Inner.{SameRank, nextPair};
+ghost use Rattle.ordering.specs.Pairs.{ceilingPair, barPair, firstFrom};
+ghost use Rattle.ordering.specs.Inner.{groupFirst, nextPair, pairIn};
 ghost use Rattle.ordering.specs.Table.{rankIn, countIn, blockId, Ordered, climb, usable};
 
 pub struct Rank(pub u32);
 
 pub struct SequenceNumber(pub u16);
+
+// Four instances are a group. The merge keeps the first pair of each of the four groups, so that behind a block its own group alone is looked through.
+const GROUP: u16 = 4;
 
 // The rank in slot `index` of an instance, 0 outside the table.
 pub fn rank_at(ranks: &[u32], instance: u16, index: u16) -> Rank
@@ -87,49 +87,52 @@ fn next_of(ranks: &[u32], full: &[u16], stop: Pair, cursors: &[u16], j: u16) -> 
     }
 }
 
-// The first of the instances' next blocks, or the bar.
-fn next_pair(m: u16, ranks: &[u32], full: &[u16], stop: Pair, cursors: &[u16]) -> Pair
-    ensures { λ r. ⌜ r ≡ firstFrom stop (nextPair (rankIn (now (ranks .entry))) (countIn (now (full .entry))) stop (countIn (now (cursors .entry)))) m ⌝ }
+// The lesser of two numbers.
+fn least(a: u16, b: u16) -> u16
+    ensures { λ r. ⌜ r ≡ min a b ⌝ }
+{
+    if a < b { a } else { b }
+}
+
+// The first of the next blocks of a group's instances, or the bar. In the last group not all four need be among the first m.
+fn first_in_group(m: u16, ranks: &[u32], full: &[u16], stop: Pair, cursors: &[u16], g: u16) -> Pair
+    requires { ⌜ g < 4 ⌝ }
+    ensures { λ r. ⌜ r
+        ≡ groupFirst stop (nextPair (rankIn (now (ranks .entry))) (countIn (now (full .entry))) stop (countIn (now (cursors .entry)))) m g ⌝ }
 {
     let mut low = stop;
-    let mut j: u16 = 0;
-    while j < m {
+    let mut j = g * GROUP;
+    let end = least(j + GROUP, m);
+    while j < end {
         low = first_of(low, next_of(ranks, full, stop, cursors, j));
         j += 1;
     }
     low
 }
 
-// The next block of k's own rank, of an instance above k's; the bar where there is none.
-fn next_same_rank(m: u16, ranks: &[u32], full: &[u16], stop: Pair, cursors: &[u16], k: Pair) -> Pair
-    requires { ⌜ k .instance < 16 ⌝ }
-    ensures { λ r. ⌜ (r ≡ stop)
-        ⊎ SameRank (nextPair (rankIn (now (ranks .entry))) (countIn (now (full .entry))) stop (countIn (now (cursors .entry)))) m k r ⌝ }
+// The same of each of the four groups.
+fn group_firsts(m: u16, ranks: &[u32], full: &[u16], stop: Pair, cursors: &[u16]) -> [Pair; 4]
+    ensures { λ r. ⌜ r
+        ≡ tabulate 4 (groupFirst stop (nextPair (rankIn (now (ranks .entry))) (countIn (now (full .entry))) stop (countIn (now (cursors .entry)))) m) ⌝ }
 {
-    let mut j = (k.instance as u16) + 1;
-    while j < m {
-        let next = next_of(ranks, full, stop, cursors, j);
-        if same_rank(next, k) {
-            return next;
-        }
-        j += 1;
-    }
-    stop
+    let a = first_in_group(m, ranks, full, stop, cursors, 0);
+    let b = first_in_group(m, ranks, full, stop, cursors, 1);
+    let c = first_in_group(m, ranks, full, stop, cursors, 2);
+    let d = first_in_group(m, ranks, full, stop, cursors, 3);
+    [a, b, c, d]
 }
 
-// What follows k, where k comes before all that is left: at equal ranks the lower instance comes first, so one of k's own rank if there is one
-// before the bar, and else the first of all.
-fn pair_after(m: u16, ranks: &[u32], full: &[u16], stop: Pair, cursors: &[u16], k: Pair) -> Pair
-    requires { ⌜ k .instance < 16 ⌝ }
-    ensures { λ r. ⌜ (r ≡ firstFrom stop (nextPair (rankIn (now (ranks .entry))) (countIn (now (full .entry))) stop (countIn (now (cursors .entry)))) m)
-        ⊎ ((isFirst (compared r stop) ≡ true)
-        × SameRank (nextPair (rankIn (now (ranks .entry))) (countIn (now (full .entry))) stop (countIn (now (cursors .entry)))) m k r) ⌝ }
+// The first of the groups' pairs, or the bar.
+fn next_pair(firsts: [Pair; 4], stop: Pair) -> Pair
+    ensures { λ r. ⌜ r ≡ firstFrom stop (pairIn firsts) 4 ⌝ }
 {
-    let near = next_same_rank(m, ranks, full, stop, cursors, k);
-    if comes_first(near, stop) {
-        return near;
+    let mut low = stop;
+    let mut g: usize = 0;
+    while g < 4 {
+        low = first_of(low, firsts[g]);
+        g += 1;
     }
-    next_pair(m, ranks, full, stop, cursors)
+    low
 }
 
 // Stores v where the buffer has the place.
@@ -150,16 +153,19 @@ pub fn global_log(m: u16, ranks: &[u32], full: [u16; 16], out: &mut [u16]) -> us
 {
     let stop = bar(m, ranks, full);
     let mut cursors = [0u16; 16];
+    let mut firsts = group_firsts(m, ranks, &full, stop, &cursors);
     let mut count: usize = 0;
-    let mut k = next_pair(m, ranks, &full, stop, &cursors);
+    let mut k = next_pair(firsts, stop);
     while comes_first(k, stop) {
         let i = k.instance as u16;
-        let n = count_at(cursors, i);
+        let n = count_in(&cursors, i);
         put(out, count, i * 128 + n);
         let at = i as usize;
         cursors[at] = n + 1;
         count += 1;
-        k = pair_after(m, ranks, &full, stop, &cursors, k);
+        let g = i / GROUP;
+        firsts[g as usize] = first_in_group(m, ranks, &full, stop, &cursors, g);
+        k = next_pair(firsts, stop);
     }
     count
 }
@@ -182,13 +188,6 @@ fn climbing(ranks: &[u32], instance: u16, count: u16) -> u16
     n
 }
 
-// At most 128 of a count.
-fn at_most(count: u16) -> u16
-    ensures { λ r. ⌜ r ≡ min count 128 ⌝ }
-{
-    if count < 128 { count } else { 128 }
-}
-
 // The counts as far as the table is one of a ledger: at most 128, and rising from above 0.
 pub fn usable_counts(ranks: &[u32], full: [u16; 16]) -> [u16; 16]
     ensures { λ r. ⌜ countIn r ≡ usable (rankIn (now (ranks .entry))) (countIn full) ⌝ }
@@ -197,7 +196,7 @@ pub fn usable_counts(ranks: &[u32], full: [u16; 16]) -> [u16; 16]
     let mut j: u16 = 0;
     while j < 16 {
         let at = j as usize;
-        counts[at] = climbing(ranks, j, at_most(count_at(full, j)));
+        counts[at] = climbing(ranks, j, least(count_at(full, j), 128));
         j += 1;
     }
     counts

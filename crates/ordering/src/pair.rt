@@ -2,7 +2,6 @@
 use crate::Rank;
 ghost use mathlib.Core.Path.{_≡_};
 ghost use Prim.Native.Nat.{_+_};
-ghost use lib.Dec.{eqb};
 ghost use Rattle.ordering.specs.Pairs.{pairOf, compared, isFirst, firstOf};
 
 // The rank and the instance of a block, or those of the bar. The bar's rank is a last rank + 1, so it may be 2^32, which no `Rank` is: hence 64 bits.
@@ -68,13 +67,6 @@ pub fn comes_first(a: Pair, b: Pair) -> bool
         Comparison::ComesAfter => false,
         Comparison::Neither => false,
     }
-}
-
-// Whether two pairs have the same rank.
-pub fn same_rank(a: Pair, b: Pair) -> bool
-    ensures { λ r. ⌜ r ≡ eqb (a .rank) (b .rank) ⌝ }
-{
-    a.rank == b.rank
 }
 
 // The one of two pairs that comes first.

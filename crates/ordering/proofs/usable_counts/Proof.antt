@@ -10,7 +10,7 @@ use Rattle.sums.proofs.SeqLaws.{each-more}
 use Rattle.ordering.proofs.usable_counts.Tie as tie
 use Rattle.ordering.proofs.usable_counts.Reads as reads
 use Rattle.ordering.proofs.usable_counts.Lts as lts
-use Rattle.ordering.proofs.at_most.Reads as at-most-reads
+use Rattle.ordering.proofs.least.Reads as least-reads
 use Rattle.ordering.proofs.climbing.Reads as climbing-reads
 use Rattle.ordering.proofs.count_at.Reads as count-at-reads
 
@@ -33,8 +33,8 @@ count-at-requires : tie.Need-count-at-requires Inv-loop μ-loop
 count-at-requires c κs = search needs
 
 -- src/lib.rt:158:41
-at-most-requires : tie.Need-at-most-requires Inv-loop μ-loop
-at-most-requires c κs = search needs
+least-requires : tie.Need-least-requires Inv-loop μ-loop
+least-requires c κs = search needs
 
 -- src/lib.rt:158:22
 climbing-requires : tie.Need-climbing-requires Inv-loop μ-loop
@@ -61,7 +61,7 @@ loop-again : tie.Need-loop-again Inv-loop μ-loop
 loop-again c =
     let l = c .before .before .before .before in
     let a = l .before .before .args in
-    let e = c .climbing .ensures ∙ ap (climb (rankIn (a .ranks .now) (l .loop .j))) (c .before .at-most .ensures ∙ ap (λ (x : ℕ). min x 128) (c .before .before .count-at .ensures)) in (
+    let e = c .climbing .ensures ∙ ap (climb (rankIn (a .ranks .now) (l .loop .j))) (c .before .least .ensures ∙ ap (λ (x : ℕ). min x 128) (c .before .before .count-at .ensures)) in (
       length-set (l .loop .counts) _ _ ∙ l .loop .inv .0,
       omega arith,
       each-more (usable (rankIn (a .ranks .now)) (countIn (a .full))) (l .loop .counts) (l .loop .j) (c .climbing .result) (omega (arith, l .loop .inv .0)) e (l .loop .inv .2),
@@ -82,7 +82,7 @@ usable-counts-spec =
     loop-holds
     cast-at
     count-at-requires
-    at-most-requires
+    least-requires
     climbing-requires
     mul-counts
     array-write-counts
