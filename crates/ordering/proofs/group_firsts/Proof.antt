@@ -1,4 +1,3 @@
-use borrow.Author.Needs.{needs}
 use native.Mathlib.Omega.{arith}
 use Rattle.ordering.proofs.Cases.{four}
 use Rattle.ordering.proofs.group_firsts.Statement.{statement}
