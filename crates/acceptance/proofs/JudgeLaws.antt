@@ -1,22 +1,19 @@
 -- The judgement of a stored block's places: what the settlement of a view asks, and what it leaves.
 -- Assumes nothing.
-use Rattle.sums.proofs.TestLaws.{pick_true, pick-false}
-use Rattle.settlement.specs.Cells.{cell_in}
-use Rattle.escrow.specs.Outcome.{serves}
 use Prim.Native.Nat.{◌*◌, ◌/◌, ◌≤◌, ℕ}
 use lib.Dec.{eqb}
 use mathlib.Core.Bool.{Bool, false, true}
 use mathlib.Core.List.{List}
-use mathlib.Core.Path.{◌∙◌, ◌≡◌, ap, ap₂, fun_ext, refl, subst, sym}
+use mathlib.Core.Path.{◌∙◌, ◌≡◌, ap, fun_ext, refl, subst, sym}
 use native.Mathlib.Omega.{arith}
 use Rattle.escrow.specs.Amounts.{covered_by, part_good}
-use Rattle.acceptance.specs.Judging.{Judgeable, covered_at, good_at, view_by}
+use Rattle.acceptance.specs.Judging.{Judgeable, view_by}
 use Rattle.state.specs.State.{Beyond}
-use Rattle.ordering.specs.Table.{Ordered, count_in, rank_in}
+use Rattle.ordering.specs.Table.{Ordered, count_in}
 use Rattle.settlement.specs.Tables.{Buffers, whole_of}
 use Rattle.settlement.specs.View.{Rows, View}
 use Rattle.sheets.proofs.SheetCells.{tx-past}
-use Rattle.sheets.specs.Sheet.{Sheet, sheet_in}
+use Rattle.sheets.specs.Sheet.{sheet_in}
 use Rattle.sums.proofs.LoopLaws.{all_to-none}
 use Rattle.sums.specs.Test.{pick}
 use Rattle.sheets.specs.declared.sheet.Sizes.{Sizes}
@@ -48,14 +45,3 @@ judgeable_still z ranks cut i h k W W' e j b = rw e (record {
   table_long = omega (arith, j.table_long, b.table-length);
   order_long = omega (arith, j.order_long, b.order-length);
 })
-
--- a place is good where its block's rank serves and its part is covered
-module _ (S : Sheet) (ranks cites cut : List ℕ) (i p : ℕ) (g : List ℕ) (x w : ℕ) (ex : x ≡ cell_in cites i p) (ew : w ≡ rank_in ranks i (p / 32)) where
-  served : (t : Bool) → serves S x w ≡ t → serves S (cell_in cites i p) (rank_in ranks i (p / 32)) ≡ t
-  served t e = sym (ap₂ (serves S) ex ew) ∙ e
-
-  pub not_served : serves S x w ≡ false → false ≡ good_at S ranks cites cut i p g
-  not_served e = sym (pick-false _ _ _ (served false e))
-
-  pub is_served : serves S x w ≡ true → (r : Bool) → r ≡ covered_at S ranks cites cut i p g → r ≡ good_at S ranks cites cut i p g
-  is_served e r q = q ∙ sym (pick_true _ _ _ (served true e))

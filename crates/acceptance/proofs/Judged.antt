@@ -5,15 +5,15 @@ use lib.Dec.{eqb}
 use lib.ListN.{get_or, set}
 use mathlib.Core.Bool.{Bool}
 use mathlib.Core.List.{List}
-use mathlib.Core.Path.{◌∙◌, ◌≡◌, ap, ap₂, refl}
+use mathlib.Core.Path.{◌∙◌, ◌≡◌, ap, refl}
 use native.Mathlib.Omega.{arith}
 use Rattle.escrow.specs.Cells.{cut_in, history_in}
-use Rattle.escrow.specs.Outcome.{judge, rows_of, serves, view_of}
+use Rattle.escrow.specs.Outcome.{judge, rows_of, view_of}
 use Rattle.state.specs.Cells.{Cells, judged_in, past_in}
 use Rattle.acceptance.specs.Judging.{judged_good, view_by}
-use Rattle.ordering.specs.Table.{count_in, rank_in}
+use Rattle.ordering.specs.Table.{count_in}
 use Rattle.sums.specs.Fold.{fold_to}
-use Rattle.sums.specs.Test.{bit, both, pick}
+use Rattle.sums.specs.Test.{bit, pick}
 use Rattle.sheets.specs.Sheet.{Sheet}
 use Rattle.escrow.proofs.AmountsViewOnly.{part_good_same}
 use Rattle.settlement.specs.Cells.{cell_in, rows_in}
@@ -28,8 +28,8 @@ module _ (S : Sheet) (some : 0 < S.m) (D : Cells) (cut : List ℕ) (i h : ℕ) (
   unfolding judged_in judged_good judge past_in history_in rows_of rows_in view_of
   judged-one g q l =
       ap (λ (t : Bool). with_good D (set g (i * 4096 + (h * 32 + q)) (bit t)))
-      (ap₂ both (ap (λ (n : ℕ). serves S (cell_in D.cites i (h * 32 + q)) (rank_in D.ranks i n)) refl) (part_good_same S some (view_of (past_in (with_good D g)) i (h * 32 + q)) (view_by (count_in cut) i (h * 32 + q)) (rows_in D.ranks D.cites g) (rows_in D.ranks D.cites g)
-      (record { places = λ j u. place j u; ranks = λ j n u w. refl; cells = λ j p u w. refl; goods = λ j p u w. refl }) i (cell_in D.cites i (h * 32 + q))))
+      (part_good_same S some (view_of (past_in (with_good D g)) i (h * 32 + q)) (view_by (count_in cut) i (h * 32 + q)) (rows_in D.ranks D.cites g) (rows_in D.ranks D.cites g)
+      (record { places = λ j u. place j u; ranks = λ j n u w. refl; cells = λ j p u w. refl; goods = λ j p u w. refl }) i (cell_in D.cites i (h * 32 + q)))
     where
       place : (j : ℕ) → j < S.m → pick (eqb j i) (h * 32 + q) (cut_in D.cuts i ((h * 32 + q) / 32) j * 32) ≡ pick (eqb j i) (h * 32 + q) (get_or cut j 0 * 32)
       place j u =

@@ -1,14 +1,13 @@
 -- The outcomes of a stored block's places, as the code judges them. Only contracts of inner functions cite this: taken_in of Cells is what they come to.
 -- Assumes nothing.
-use Rattle.escrow.specs.Outcome.{serves}
-use Rattle.std.specs.Prelude.{◌*◌, ◌+◌, ◌/◌, ◌<◌, ◌≤◌, ℕ, eqb, get_or, length, set, Bool, List, ◌≡◌}
+use Rattle.std.specs.Prelude.{◌*◌, ◌+◌, ◌<◌, ◌≤◌, ℕ, eqb, get_or, length, set, Bool, List, ◌≡◌}
 use Rattle.escrow.specs.Amounts.{part_good}
 use Rattle.ordering.specs.Table.{Ordered, count_in, rank_in}
 use Rattle.sheets.specs.declared.sheet.Sizes.{Sizes}
 use Rattle.settlement.specs.Tables.{Buffers}
 use Rattle.settlement.specs.View.{no_cite}
 use Rattle.sums.specs.Seq.{written}
-use Rattle.sums.specs.Test.{bit, both, pick}
+use Rattle.sums.specs.Test.{bit, pick}
 use Rattle.frames.specs.declared.block.Block.{Block}
 use Rattle.sheets.specs.Sheet.{Sheet}
 use Rattle.settlement.specs.Cells.{cell_in, rows_in}
@@ -19,12 +18,9 @@ use Rattle.settlement.specs.View.{View}
 abbrev pub view_by : (ℕ → ℕ) → ℕ → ℕ → View
 view_by F i p j = pick (eqb j i) p (F j * 32)
 
--- whether the part that is cited at place p of instance i is covered, and its outcome
-abbrev pub covered_at : Sheet → List ℕ → List ℕ → List ℕ → ℕ → ℕ → List ℕ → Bool
-covered_at S ranks cites cut i p g = part_good S (rows_in ranks cites g) (view_by (count_in cut) i p) i (cell_in cites i p)
-
+-- the outcome of the part that is cited at place p of instance i
 abbrev pub good_at : Sheet → List ℕ → List ℕ → List ℕ → ℕ → ℕ → List ℕ → Bool
-good_at S ranks cites cut i p g = both (serves S (cell_in cites i p) (rank_in ranks i (p / 32))) (covered_at S ranks cites cut i p g)
+good_at S ranks cites cut i p g = part_good S (rows_in ranks cites g) (view_by (count_in cut) i p) i (cell_in cites i p)
 
 -- the outcomes g with that of place p
 unfoldable pub judged_good : Sheet → List ℕ → List ℕ → List ℕ → ℕ → ℕ → List ℕ → List ℕ

@@ -1,16 +1,16 @@
 // The part outcomes of a stored block: each is judged in its citation's view, and kept.
 ghost use Rattle.std.specs.Prelude.{◌*◌, ◌+◌, ◌/◌, ◌<◌, ◌≤◌, ℕ, ◌≡◌};
 ghost use Rattle.sheets.specs.Sheet.{sheet_in};
-ghost use Rattle.acceptance.specs.Judging.{Judgeable, covered_at, good_at, judged_good, view_by};
+ghost use Rattle.acceptance.specs.Judging.{Judgeable, good_at, judged_good, view_by};
 ghost use Rattle.state.specs.State.{Beyond};
 ghost use Rattle.settlement.specs.Tables.{buffers};
 ghost use Rattle.ordering.specs.Table.{count_in};
 ghost use Rattle.sums.specs.Fold.{fold_to};
 ghost use Rattle.sums.specs.Test.{bit};
 
-use escrow::outcome::{outcome, serves};
+use escrow::outcome::outcome;
 use fields::put_byte;
-use ordering::{count_at, rank_at};
+use ordering::count_at;
 use settlement::rows::cite_at;
 use sheets::sheet::Sizes;
 
@@ -41,37 +41,7 @@ fn flag(good: bool) -> u8
     if good { 1 } else { 0 }
 }
 
-// Whether the part cited at place p of instance i is covered in its view. An empty place has no debits, and so is.
-fn covered(
-    sheet: &[u8],
-    ranks: &[u32],
-    cites: &[u16],
-    good: &[u8],
-    z: Sizes,
-    cut: [u16; 16],
-    i: u16,
-    p: u16,
-    counts: &mut [u32],
-    table: &mut [u8],
-    order: &mut [u16],
-) -> bool
-    requires { Judgeable z ranks.now cut i (p / 32) (buffers counts.old table.old order.old) }
-    ensures { (result ≡ covered_at (sheet_in sheet.now z) ranks.now cites.now cut i p good.now)
-        × Beyond z
-        (buffers counts.old table.old order.old)
-        (buffers counts.new table.new order.new) }
-{
-    let x = cite_at(cites, i, p);
-    if z.t <= x {
-        return true;
-    }
-    let view = view_of(cut, i, p);
-    outcome(
-        sheet, ranks, cites, good, z, view, counts, table, order, i, x,
-    )
-}
-
-// Whether the part cited at place p of instance i is good: its block's rank serves, and it is covered in its view.
+// Whether the part cited at place p of instance i is good in its view. An empty place has no debits, and so is good.
 fn part_good(
     sheet: &[u8],
     ranks: &[u32],
@@ -92,12 +62,12 @@ fn part_good(
         (buffers counts.new table.new order.new) }
 {
     let x = cite_at(cites, i, p);
-    let rank = rank_at(ranks, i, p / 32);
-    if !serves(sheet, z, x, rank.0) {
-        return false;
+    if z.t <= x {
+        return true;
     }
-    covered(
-        sheet, ranks, cites, good, z, cut, i, p, counts, table, order,
+    let view = view_of(cut, i, p);
+    outcome(
+        sheet, ranks, cites, good, z, view, counts, table, order, i, x,
     )
 }
 

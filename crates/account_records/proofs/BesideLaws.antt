@@ -96,8 +96,8 @@ module _ (l : Ledger) (K : Kept) (W : Buffers) (room : ℕ) (a : Answer) (W' : B
 
 -- ---- what the records need, and what becomes of them
 
-lent-last : (needs lent : List ℕ) (n f h : ℕ) → length needs ≡ length lent → lent_answer (needs ++ (n ∷ n ∷ [])) (lent ++ (f ∷ h ∷ [])) ≡ accepted → (n ≤ f) × (n ≤ h)
-lent-last needs lent n f h s e =
+lent_last : (needs lent : List ℕ) (n f h : ℕ) → length needs ≡ length lent → lent_answer (needs ++ (n ∷ n ∷ [])) (lent ++ (f ∷ h ∷ [])) ≡ accepted → (n ≤ f) × (n ≤ h)
+lent_last needs lent n f h s e =
     let p = lent_enough n f (n ∷ []) (h ∷ []) (then_pass (lent_answer needs lent) _ (lent-append needs lent (n ∷ n ∷ []) (f ∷ h ∷ []) s ∙ e)).1 in
     (p.0, (lent_enough n h [] [] p.1).0)
 
@@ -113,7 +113,7 @@ module _ (l : Ledger) (K : Kept) (W : Buffers) (f h : List ℕ) (room : ℕ) (a 
   enough e =
       let p = then_pass _ _ (sym c.answered ∙ accepted_of a e) in
       let q = then_pass _ _ p.0 in
-      let s = lent-last (settle_needs (sheet_of l K)) (settle_lengths K W) (sheet_of l K).a (length f) (length h) refl q.1 in
+      let s = lent_last (settle_needs (sheet_of l K)) (settle_lengths K W) (sheet_of l K).a (length f) (length h) refl q.1 in
       let r = ltb-false room (sheet_of l K).a (refuse_pass _ 16 _ p.1) in
       let z = sheet-a K.sheet (sizes_of l) in
       record { free = omega (arith, s.0, z); held = omega (arith, s.1, z); records = omega (arith, r, z) }

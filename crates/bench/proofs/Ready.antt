@@ -21,9 +21,9 @@ use Rattle.sheets.specs.declared.sheet.Sizes.{Sizes}
 -- ---- one block
 
 module _ (ranks : List ℕ) (b j n : ℕ) where
-  pub rises-last : b ≤ n + 1 → true ≡ rises_at ranks b j n
+  pub rises_last : b ≤ n + 1 → true ≡ rises_at ranks b j n
   unfolding rises_at
-  rises-last h = sym (pick-false _ _ _ (le-ltb (n + 1) b h))
+  rises_last h = sym (pick-false _ _ _ (le-ltb (n + 1) b h))
 
   pub rises_next : n + 1 < b → (p q : ℕ) → p ≡ rank_in ranks j n → q ≡ rank_in ranks j (n + 1) → ltb p q ≡ rises_at ranks b j n
   unfolding rises_at

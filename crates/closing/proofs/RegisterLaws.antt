@@ -7,7 +7,7 @@ use mathlib.Core.Path.{◌∙◌, ◌≡◌, refl}
 use Rattle.settlement.specs.Books.{Book, booked, counted, empty_book, run_all, settled, step}
 use Rattle.settlement.specs.Settlement.{contracts}
 use Rattle.settlement.specs.View.{Event, Rows, View, log_events, view_log}
-use Rattle.sheets.specs.Operations.{Done, operate, operate_to, operated, operated_at}
+use Rattle.sheets.specs.Operations.{Done, operate, operate_to, operated}
 use Rattle.sheets.specs.Sheet.{Sheet, tx_at}
 use Rattle.sums.proofs.TestLaws.{by-pick}
 use Rattle.transactions.specs.Content.{Operation, operation_of}
@@ -23,9 +23,9 @@ module _ (S : Sheet) (P : List ℕ → Type 0) (keeps : (x k : ℕ) (r : List �
   In s = P s.registers
 
   step_keeps : (s : Book) (e : Event) → In s → In (step S s e)
-  unfolding step booked counted settled operated operated_at
+  unfolding step booked counted settled operated
   step_keeps s e h =
-      by-pick In _ (λ t. by-pick In _ (λ u. by-pick In _ (λ w. by-pick (λ (d : Done). P d.registers) _ (λ v. operations_keep e.tx _ s.registers h) (λ v. h)) (λ w. h)) (λ u. h)) (λ t. h)
+      by-pick In _ (λ t. by-pick In _ (λ u. by-pick In _ (λ w. operations_keep e.tx _ s.registers h) (λ w. h)) (λ u. h)) (λ t. h)
 
   run_keeps : (s : Book) (l : List Event) → In s → In (run_all S s l)
   unfolding run_all

@@ -10,7 +10,7 @@ use Rattle.text.specs.Wrote.{Wrote}
 
 -- buffers as long as any sheet needs: 16 instances, 1024 accounts and 1024 transactions
 pub record Ample (K : Kept) (W : Buffers) : Type 0 where
-  pub sheet : 118784 ≤ length K.sheet
+  pub sheet : 110592 ≤ length K.sheet
   pub ranks : 2048 ≤ length K.ranks
   pub cites : 65536 ≤ length K.cites
   pub good : 65536 ≤ length K.good

@@ -12,7 +12,7 @@ use native.Mathlib.Omega.{arith}
 use Rattle.demand.proofs.Fronts.{sheet-front}
 use Rattle.demand.proofs.Replies.{early_same}
 use Rattle.demand.specs.Chain.{Opening, SameFront, begin, early, few, load, moved, sheet_after, sheet_with}
-use Rattle.frames.proofs.StepLaws.{due_four, due_late, judged-kind, took-judged}
+use Rattle.frames.proofs.StepLaws.{due_four, due_late, judged-kind, took_judged}
 use Rattle.frames.specs.Frame.{body_at, body_of, frame_at}
 use Rattle.frames.specs.Step.{header_loaded, kind_due, step_at}
 use Rattle.frames.specs.declared.step.Loading.{Loading}
@@ -75,7 +75,7 @@ module _ (l : Ledger) (cells cells' run : List ℕ) (at : ℕ) (S : Sheet) (r : 
     unfolding sheet_with complete header_loaded
     added next end q late =
         by_kind (judged-kind l.loading (kind_due l.loading) (body_at run at) at
-        (took-judged l.loading run at next end (own_step run at l.loading next end (length cells) (sym L.bytes.answers ∙ q))).0)
+        (took_judged l.loading run at next end (own_step run at l.loading next end (length cells) (sym L.bytes.answers ∙ q))).0)
       where
         A : Adds l.loading next (body_at run at) cells cells'
         A = L.adds next end q

@@ -21,7 +21,7 @@ use Rattle.fields.specs.Number.{AreBytes}
 use Rattle.frames.proofs.BalancesLaws.{balances_checked, balances_fine, length-read}
 use Rattle.frames.proofs.BlockLaws.{block_checked}
 use Rattle.frames.proofs.HeaderLaws.{header_checked, header_fine}
-use Rattle.frames.proofs.StepLaws.{differ, judged-balances, judged-block, judged-header, judged-transaction, step-take, took-due, took-judged}
+use Rattle.frames.proofs.StepLaws.{differ, judged-balances, judged-block, judged-header, judged-transaction, step-take, took_due, took_judged}
 use Rattle.frames.specs.Balances.{balances_of, check_balances}
 use Rattle.frames.specs.Block.{block_of, check_block, cites_of, cut_of}
 use Rattle.frames.specs.Frame.{body_at, frame_at}
@@ -66,11 +66,11 @@ module _ (s : Loading) (K : Kind) (supplies : Supplies s K) where
 
   module _ (run : List ℕ) (at end : ℕ) (v : K.Content) (r : Reads s K run at end v) where
     read-due : kind_due s ≡ K.number
-    read-due = sym (took-due s run at (loading_after s K.number (body_at run at)) end r.framed r.taken)
+    read-due = sym (took_due s run at (loading_after s K.number (body_at run at)) end r.framed r.taken)
 
     read-judged : judged s K.number (body_at run at) at ≡ Fine
     read-judged =
-        ap (λ (k : ℕ). judged s k (body_at run at) at) (sym read-due) ∙ (took-judged s run at (loading_after s K.number (body_at run at)) end r.taken).0
+        ap (λ (k : ℕ). judged s k (body_at run at) at) (sym read-due) ∙ (took_judged s run at (loading_after s K.number (body_at run at)) end r.taken).0
 
     read-writable : K.verdict v ≡ Fine
     read-writable = ap K.verdict (sym r.content) ∙ supplies.writable (body_at run at) at read-due read-judged

@@ -18,8 +18,8 @@ use Rattle.sums.proofs.SeqLaws.{length-tabulate}
 use Rattle.sums.proofs.TestLaws.{both_true}
 use Rattle.sums.specs.Seq.{tabulate}
 use Rattle.transactions.proofs.BodyLaws.{counts_small}
-use Rattle.transactions.proofs.CheckLaws.{check_judge}
-use Rattle.transactions.specs.Body.{lists_end, entry_in, operation_in, transaction_of}
+use Rattle.transactions.proofs.CheckLaws.{check-judge}
+use Rattle.transactions.specs.Body.{end_due, entry_in, operation_in, transaction_of}
 use Rattle.transactions.specs.Check.{check_transaction, counts_ok, in_range, judge_transaction}
 use Rattle.transactions.specs.Content.{Entry, Operation, Transaction, entry_of, no_entry, no_operation, operation_of}
 use Rattle.refusals.specs.declared.Checked.TheVariants.{Fine}
@@ -89,12 +89,11 @@ module _ (t : Transaction) (post : List ℕ) (sized : TransactionFits t) where
       let c = ap (λ (r : List ℕ). tabulate (length t.credits) (entry_in r)) after-debits ∙ entries-back t.credits _ sized.payee sized.credit in
       let o = ap (λ (r : List ℕ). tabulate (length t.operations) (operation_in r)) after-credits ∙ list_back 6 operation_bytes no_operation operation_long operation_in operation_further t.operations post
       (λ k rest lt. operation_back (operation_of t.operations k) rest (sized.value k lt)) in
-      same d c o (sym sized.first) (sym sized.last)
+      same d c o
     where
-      same : {d d' c c' : List Entry} {o o' : List Operation} {f f' l l' : ℕ} → d ≡ d' → c ≡ c' → o ≡ o' → f ≡ f' → l ≡ l'
-          → ◌≡◌ {A = Transaction} (record { kind = t.kind; debits = d; credits = c; operations = o; first = f; last = l })
-          (record { kind = t.kind; debits = d'; credits = c'; operations = o'; first = f'; last = l' })
-      same p q r u w = rw (p, q, r, u, w) refl
+      same : {d d' c c' : List Entry} {o o' : List Operation} → d ≡ d' → c ≡ c' → o ≡ o'
+          → ◌≡◌ {A = Transaction} (record { kind = t.kind; debits = d; credits = c; operations = o }) (record { kind = t.kind; debits = d'; credits = c'; operations = o' })
+      same p q r = rw (p, q, r) refl
 
 -- writing what was read
 lists-forth : (s : List ℕ) (d c o : ℕ) → AreBytes s → length s ≡ 4 + 6 * d + 6 * c + 6 * o
@@ -110,7 +109,7 @@ lists-forth s d c o b long =
     ∙ join (6 * d) (6 * c + 6 * o) 4 s
     ∙ take_all (6 * d + (6 * c + 6 * o)) (drop 4 s) (simp length-drop (omega arith)))
 
-pub transaction-forth : (s : List ℕ) → AreBytes s → 4 ≤ length s → length s ≡ lists_end s → transaction_body (transaction_of s) ≡ s
+pub transaction-forth : (s : List ℕ) → AreBytes s → 4 ≤ length s → length s ≡ end_due s → transaction_body (transaction_of s) ≡ s
 unfolding transaction_of transaction_body
 transaction-forth [] b h e = absurd (not-suc-le-zero h)
 transaction-forth (w ∷ []) b h e = absurd (none h)
@@ -138,12 +137,12 @@ short-transaction a g t e =
     omega (arith, length-transaction t)
 
 -- the reader's check of a written body is the verdict on the transaction
-due_length : (t : Transaction) → length (transaction_body t) ≡ lists_end (transaction_body t)
+due_length : (t : Transaction) → length (transaction_body t) ≡ end_due (transaction_body t)
 unfolding transaction_body
 due_length t = length-transaction t
 
 pub check_written : (t : Transaction) (at a g : ℕ) → TransactionFits t → check_transaction (transaction_body t) at a g ≡ judge_transaction at a g t
 check_written t at a g sized =
     let n = length-transaction t in
-    check_judge (transaction_body t) at a g (omega arith) (due_length t)
+    check-judge (transaction_body t) at a g (omega arith) (due_length t)
     ∙ ap (judge_transaction at a g) (ap transaction_of (sym (append-nil (transaction_body t))) ∙ transaction-back t [] sized)

@@ -1,7 +1,7 @@
 -- Contents whose numbers fit the fields of document 01's kinds table, as those of the code's types do.
 -- Assumes nothing.
 use Rattle.std.specs.Prelude.{◌<◌, ℕ, get_or, length, List, ◌≡◌}
-use Rattle.transactions.specs.Content.{Transaction, entry_of, highest_rank, operation_of}
+use Rattle.transactions.specs.Content.{Transaction, entry_of, operation_of}
 use Rattle.frames.specs.declared.block.Block.{Block}
 use Rattle.frames.specs.declared.header.Header.{Header}
 
@@ -23,9 +23,6 @@ pub record TransactionFits (t : Transaction) : Type 0 where
   pub payee : (k : ℕ) → k < length t.credits → (entry_of t.credits k).account < 65536
   pub credit : (k : ℕ) → k < length t.credits → (entry_of t.credits k).amount < 4294967296
   pub value : (k : ℕ) → k < length t.operations → (operation_of t.operations k).value < 4294967296
-  -- "The term 1 to 2^32 − 1 is written only as kind 3", and kind 3 writes no other
-  pub first : t.first ≡ 1
-  pub last : t.last ≡ highest_rank
 
 -- kind 4: a cut is an array of sixteen
 pub record BlockFits (b : Block) (cites : List ℕ) : Type 0 where

@@ -12,7 +12,7 @@ use Rattle.escrow.specs.Amounts.{covered_by, credited, debit_at, free, free_by, 
 use Rattle.escrow.specs.Cells.{free_in, good_in, held_in}
 use Rattle.escrow.specs.Inner.{debit_good, debits_out, out_at, takes}
 use Rattle.transactions.specs.Content.{Entry, Transaction, entry_of, no_entry}
-use Rattle.transactions.specs.Body.{entry_in, termed_of}
+use Rattle.transactions.specs.Body.{entry_in, transaction_of}
 use Rattle.ordering.specs.Table.{count_in}
 use Rattle.settlement.proofs.StatusCells.{of_open, of_paid, of_returned}
 use Rattle.settlement.specs.Cells.{rows_in}
@@ -21,7 +21,7 @@ use Rattle.settlement.specs.Settlement.{status}
 use Rattle.settlement.specs.Tables.{status_in, status_of}
 use Rattle.settlement.specs.View.{Rows}
 use Rattle.sheets.proofs.SheetCells.{sheet-count, tx-from, tx-past}
-use Rattle.sheets.specs.Parts.{amount_on, home, is_contract}
+use Rattle.sheets.specs.Parts.{amount_on, home}
 use Rattle.sheets.specs.Sheet.{Sheet, balance, sheet_in, slot, tx_at, tx_count}
 use Rattle.sums.proofs.LoopLaws.{all_to-none}
 use Rattle.sums.proofs.SeqLaws.{tabulate_each}
@@ -139,7 +139,7 @@ module _ (b : List ℕ) (z : Sizes) (f : ℕ → ℕ) (j x : ℕ) where
 
   covered-judged : (body list : List ℕ) (n : ℕ) (r : Bool) → x < z.t → body ≡ slot b z x → r ≡ all_to n (debit_good (sheet_in b z) f (entry_in list) j)
       → list ≡ drop 4 body → n ≡ get_or body 1 0 → r ≡ covered_by (sheet_in b z) f j x
-  unfolding covered_by termed_of part_of debit_good
+  unfolding covered_by transaction_of part_of debit_good
   covered-judged body list n r h e q el en =
       q ∙ ap₂ (λ (l : List ℕ) (c : ℕ). all_to c (debit_good (sheet_in b z) f (entry_in l) j)) el en
       ∙ sym (tabulate_each no_entry _ _ all_to all_to_ext (λ (a : Entry). pick (eqb (home (sheet_in b z) a.account) j) (leb a.amount (f a.account)) true))

@@ -4,14 +4,14 @@ use Prim.Native.Nat.{◌*◌, ◌/◌, ◌<◌, ◌≤◌, ℕ}
 use lib.Dec.{eqb}
 use mathlib.Core.Bool.{Bool}
 use mathlib.Core.Logic.{◌≢◌}
-use mathlib.Core.Path.{◌∙◌, ◌≡◌, ap, ap₂, refl, sym}
+use mathlib.Core.Path.{◌∙◌, ◌≡◌, ap, refl, sym}
 use native.Mathlib.Decide.{dec_lt}
 use native.Mathlib.Omega.{arith}
 use Rattle.escrow.proofs.FullView.{log_all}
 use Rattle.escrow.proofs.AmountsViewOnly.{part_good_same}
 use Rattle.escrow.proofs.Outcomes.{ProperLogs, judge-local, outcome-is, outcome-only, view_inside}
 use Rattle.escrow.specs.Amounts.{part_good}
-use Rattle.escrow.specs.Outcome.{Citation, History, InLogs, citation, full_view, judge, outcome, rows_of, serves, view_of}
+use Rattle.escrow.specs.Outcome.{Citation, History, InLogs, citation, full_view, judge, outcome, rows_of, view_of}
 use Rattle.escrow.specs.Report.{rows_all, status_all}
 use Rattle.ordering.specs.Table.{Climbs}
 use Rattle.settlement.proofs.StatusLaws.{Once, status_keeps, view_log-begins}
@@ -21,7 +21,7 @@ use Rattle.settlement.specs.Settlement.{is_cite}
 use Rattle.settlement.specs.View.{View, event_at}
 use Rattle.sheets.specs.Sheet.{Sheet}
 use Rattle.sums.specs.Seq.{Begins}
-use Rattle.sums.specs.Test.{both, pick}
+use Rattle.sums.specs.Test.{pick}
 
 -- each instance's log is a beginning of the other's
 pub record Extends (S : Sheet) (H H' : History) : Type 0 where
@@ -52,12 +52,10 @@ module _ (S : Sheet) (some : 0 < S.m) (H H' : History) (F : ProperLogs S H) (F' 
   judge_grown : (o : Citation → Bool) (c : Citation) → InLogs S H c → judge S H o c ≡ judge S H' o c
   unfolding judge
   judge_grown o c w =
-      ap₂ both
-      (ap₂ (serves S) (E.cells c.instance c.position w.0 w.1) (E.ranks c.instance (c.position / 32) w.0 (omega (arith, w.1))))
-      (part_good_same S some (view_of H c.instance c.position) (view_of H' c.instance c.position) (rows_of H o) (rows_of H' o)
+      part_good_same S some (view_of H c.instance c.position) (view_of H' c.instance c.position) (rows_of H o) (rows_of H' o)
       (rows_grown o o _ _ (λ j l. view_inside S H F c.instance c.position j w.0 w.1 l)
       (λ j l. view_grown c.instance c.position j w.0 w.1 l) (λ x y. refl)) c.instance _
-      ∙ ap (part_good S (rows_of H' o) (view_of H' c.instance c.position) c.instance) (E.cells c.instance c.position w.0 w.1))
+      ∙ ap (part_good S (rows_of H' o) (view_of H' c.instance c.position) c.instance) (E.cells c.instance c.position w.0 w.1)
 
   pub outcome_grown : (c : Citation) → InLogs S H c → outcome S H' c ≡ outcome S H c
   outcome_grown = outcome-only S H F some (outcome S H')

@@ -5,18 +5,18 @@ use borrow.Author.Tests.{eq-eqb, eqb-false, eqb-true, ne_eqb}
 use lib.Dec.{eqb}
 use mathlib.Core.Bool.{Bool}
 use mathlib.Core.Logic.{◌≢◌, ◌⊎◌, inl, inr}
-use mathlib.Core.Path.{◌≡◌, ap, refl}
+use mathlib.Core.Path.{◌≡◌, refl}
 use native.Mathlib.Nat.{eq-or-lt_of_le}
 use native.Mathlib.Omega.{arith}
 use Rattle.escrow.proofs.AmountsViewOnly.{part_good_same}
 use Rattle.escrow.proofs.Fixpoint.{fixpoint, unique}
-use Rattle.escrow.specs.Outcome.{Citation, History, InLogs, citation, depth, judge, outcome, rows_of, serves, view_of}
+use Rattle.escrow.specs.Outcome.{Citation, History, InLogs, citation, depth, judge, outcome, rows_of, view_of}
 use Rattle.ordering.specs.Table.{Climbs}
 use Rattle.sheets.specs.Parts.{has_part}
 use Rattle.sheets.specs.Sheet.{Sheet, tx_count}
 use Rattle.sums.proofs.TestLaws.{by-pick, pick-false, pick_true}
 use Rattle.sums.specs.Sum.{sum_to}
-use Rattle.sums.specs.Test.{both, given}
+use Rattle.sums.specs.Test.{given}
 
 -- what acceptance ensures of the logs. arrival is some order in which each block comes after those of its view
 pub record ProperLogs (S : Sheet) (H : History) : Type 0 where
@@ -45,9 +45,8 @@ pub judge_view : (S : Sheet) → 0 < S.m → (H : History) (o o' : Citation → 
     → ((j p : ℕ) → j < S.m → p < view_of H c.instance c.position j → o (citation j p) ≡ o' (citation j p)) → judge S H o c ≡ judge S H o' c
 unfolding judge rows_of
 judge_view S some H o o' c h =
-    ap (both (serves S (H.cell c.instance c.position) (H.rank c.instance (c.position / 32))))
-    (part_good_same S some (view_of H c.instance c.position) (view_of H c.instance c.position) (rows_of H o) (rows_of H o')
-    (record { places = λ j l. refl; ranks = λ j n l u. refl; cells = λ j p l u. refl; goods = h }) c.instance _)
+    part_good_same S some (view_of H c.instance c.position) (view_of H c.instance c.position) (rows_of H o) (rows_of H o')
+    (record { places = λ j l. refl; ranks = λ j n l u. refl; cells = λ j p l u. refl; goods = h }) c.instance _
 
 module _ (S : Sheet) (H : History) (F : ProperLogs S H) where
   pub stamp : Citation → ℕ

@@ -27,7 +27,7 @@ use Rattle.sheets.proofs.ProperLaws.{ProperSheet}
 use Rattle.sheets.specs.Parts.{amount_on, has_part, home}
 use Rattle.sheets.specs.Sheet.{Sheet, balance, tx_at, tx_count}
 use Rattle.sums.proofs.SumLaws.{sum_ext, sum_mono, sum_swap, sum_zeros}
-use Rattle.sums.proofs.TestLaws.{all_to_true, any_to_false, both_true, given_false, given_true, pick-false, pick_true, sum_one, sum_only}
+use Rattle.sums.proofs.TestLaws.{all_to_true, any_to_false, given_false, given_true, pick-false, pick_true, sum_one, sum_only}
 use Rattle.sums.specs.Sum.{sum_to}
 use Rattle.sums.specs.Test.{given}
 
@@ -80,7 +80,7 @@ module _ (S : Sheet) (Q : ProperSheet S) (H : History) (F : ProperLogs S H) wher
       subst (λ (n : ℕ). amount_on (tx_at S ((rows_all S H).cell (home S k) p)).debits k ≤ free_by S (rows_all S H) (status S (rows_all S H) (view_of H (home S k) p)) n k)
       (view_of_own H (home S k) p)
       (unfold free in part_covers S Q (rows_all S H) (view_of H (home S k) p) (home S k) _ k
-      (unfold judge rows_all rows_of in (both_true _ (sym (outcome-is S H F Q.some (citation (home S k) p) (home_lt S Q.some k, u)) ∙ g)).1) refl)
+      (unfold judge rows_all rows_of in (sym (outcome-is S H F Q.some (citation (home S k) p) (home_lt S Q.some k, u)) ∙ g)) refl)
 
   pub covers : (k : ℕ) → reserved S (rows_all S H) (status_all S H) (full_view H (home S k)) k ≤ balance S k + credited S (status_all S H) k
   unfolding rows_all rows_of full_view

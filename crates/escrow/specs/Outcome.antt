@@ -1,13 +1,11 @@
 -- Part outcomes, from the instance logs alone (document 01, "View", "Part outcome"; "The rules take each citation after those in its view").
 -- Assumes nothing.
-use Rattle.std.specs.Prelude.{◌*◌, ◌/◌, ◌<◌, suc, zero, ℕ, eqb, Bool, false, true}
+use Rattle.std.specs.Prelude.{◌*◌, ◌/◌, ◌<◌, suc, zero, ℕ, eqb, Bool, false}
 use Rattle.escrow.specs.Amounts.{part_good}
 use Rattle.settlement.specs.View.{Rows, View}
-use Rattle.sheets.specs.Parts.{is_contract}
-use Rattle.sheets.specs.Sheet.{Sheet, tx_at}
-use Rattle.transactions.specs.Content.{in_term}
+use Rattle.sheets.specs.Sheet.{Sheet}
 use Rattle.sums.specs.Sum.{sum_to}
-use Rattle.sums.specs.Test.{both, pick}
+use Rattle.sums.specs.Test.{pick}
 
 -- the instance logs as the rules read them: how many blocks each has; the rank and the cut entries of each block; the rows of citations
 pub record History : Type 0 where
@@ -40,15 +38,9 @@ view_of H j p i = pick (eqb i j) p (H.entry j (p / 32) i * 32)
 unfoldable pub full_view : History → View
 full_view H i = H.height i * 32
 
--- request 03, "A payment's part fails if its block's rank lies outside the term": a block of rank r serves transaction x. A contract's part may be booked at any rank
-unfoldable pub serves : Sheet → ℕ → ℕ → Bool
-serves S x r = pick (is_contract S x) true (in_term (tx_at S x) r)
-
--- the part that a citation books, judged by the rank of its block, and in its view by the outcomes o
+-- the part that a citation books, judged in its view by the outcomes o
 unfoldable pub judge : Sheet → History → (Citation → Bool) → Citation → Bool
-judge S H o c =
-    both (serves S (H.cell c.instance c.position) (H.rank c.instance (c.position / 32)))
-    (part_good S (rows_of H o) (view_of H c.instance c.position) c.instance (H.cell c.instance c.position))
+judge S H o c = part_good S (rows_of H o) (view_of H c.instance c.position) c.instance (H.cell c.instance c.position)
 
 -- Outcomes rest on outcomes of earlier views. By fuel: judged at most f views deep
 unfoldable pub judged_to : {C : Type 0} → ((C → Bool) → C → Bool) → ℕ → C → Bool

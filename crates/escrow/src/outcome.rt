@@ -3,7 +3,6 @@ ghost use Rattle.std.specs.Prelude.{◌*◌, ◌≤◌, length, ◌≡◌};
 ghost use Rattle.escrow.specs.Amounts.{part_good};
 ghost use Rattle.escrow.specs.Cells.{free_in, good_in};
 ghost use Rattle.escrow.specs.Inner.{debit_good};
-ghost use Rattle.escrow.specs.Outcome.{serves};
 ghost use Rattle.transactions.specs.Body.{entry_in};
 ghost use Rattle.ordering.specs.Table.{Ordered, count_in, rank_in};
 ghost use Rattle.settlement.specs.Cells.{rows_in};
@@ -15,18 +14,8 @@ use crate::amounts::free_of;
 use fields::byte_at;
 use settlement::settle::settle;
 use sheets::parts::home_of;
-use sheets::sheet::{Sizes, in_term, is_contract, slot_of};
+use sheets::sheet::{Sizes, slot_of};
 use transactions::lists::{account_at, amount_at, debits};
-
-// Whether a block of a rank serves transaction x: a payment's part fails outside its term.
-pub fn serves(sheet: &[u8], z: Sizes, x: u16, rank: u32) -> bool
-    ensures { result ≡ serves (sheet_in sheet.now z) x rank }
-{
-    if is_contract(sheet, z, x) {
-        return true;
-    }
-    in_term(sheet, z, x, rank)
-}
 
 // Debit i of a list is not in instance j, or is at most the free amount of its account.
 fn debit_good(

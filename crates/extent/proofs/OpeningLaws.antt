@@ -56,22 +56,10 @@ bytes-sets : (vs l : List ℕ) (i : ℕ) → AreBytes l → AreBytes vs → AreB
 bytes-sets [] l i h u = h
 bytes-sets (v ∷ vs) l i h u = bytes-sets vs (set l i v) (suc i) (low_set 256 l i v h (u 0)) (λ k. u (suc k))
 
-bytes-number : (n v : ℕ) → AreBytes (le_bytes n v)
-unfolding le_bytes
-bytes-number zero v k = omega arith
-bytes-number (suc n) v zero = omega arith
-bytes-number (suc n) v (suc k) = bytes-number n (v / 256) k
-
-stores_bytes : (i : ℕ) (b cells : List ℕ) → AreBytes b → AreBytes cells → AreBytes (term_stored i b cells)
-unfolding store_number
-stores_bytes i b cells h u =
-    bytes-sets (le_bytes 4 highest_rank) (sets (sets cells i b) (i + lists_end b) (le_bytes 4 1)) (i + lists_end b + 4)
-    (bytes-sets (le_bytes 4 1) (sets cells i b) (i + lists_end b) (bytes-sets b cells i u h) (bytes-number 4 1)) (bytes-number 4 highest_rank)
-
 stored_bytes : (s : Loading) (b cells : List ℕ) → AreBytes b → AreBytes cells → AreBytes (body_stored s b cells)
 unfolding body_stored
 stored_bytes s b cells h u =
-    by-pick AreBytes (eqb (kind_due s) 2) (λ e. bytes-sets b cells 0 u h) (λ e. by-pick AreBytes (eqb (kind_due s) 3) (λ q. stores_bytes (slot_from s.a s.loaded) b cells h u) (λ q. u))
+    by-pick AreBytes (eqb (kind_due s) 2) (λ e. bytes-sets b cells 0 u h) (λ e. by-pick AreBytes (eqb (kind_due s) 3) (λ q. bytes-sets b cells _ u h) (λ q. u))
 
 step-bytes : (s : Loading) (b cells : List ℕ) (t : Step) → AreBytes b → AreBytes cells → AreBytes (loaded_cells s b cells t)
 step-bytes s b cells (Step.Took next end) h u = stored_bytes s b cells h u

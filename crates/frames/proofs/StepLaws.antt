@@ -7,17 +7,16 @@ use mathlib.Core.Bool.{Bool, false, not, true}
 use mathlib.Core.List.{List}
 use mathlib.Core.Logic.{◌⊎◌, inl, inr, ⊎_elim}
 use mathlib.Core.Path.{◌∙◌, ◌≡◌, ap, refl, sym}
-use native.Mathlib.Decide.{ℕ_discrete}
 use native.Mathlib.Omega.{arith}
 use Rattle.frames.specs.Balances.{check_balances}
 use Rattle.frames.specs.Block.{check_block}
-use Rattle.frames.specs.Frame.{body_at, body_of, frame_at, kind_at, kind_of}
+use Rattle.frames.specs.Frame.{body_of, frame_at}
 use Rattle.frames.specs.Header.{check_header, header_ok}
-use Rattle.frames.specs.Step.{after_check, after_frame, due_with, header_loaded, judged, kind_due, loading_after, step_at}
+use Rattle.frames.specs.Step.{after_check, after_frame, header_loaded, judged, kind_due, loading_after, step_at}
 use Rattle.refusals.proofs.CheckedLaws.{refused_not_fine}
 use Rattle.sums.proofs.TestLaws.{first_taken, passed, peel, took}
 use Rattle.sums.specs.Test.{pick}
-use Rattle.transactions.specs.Check.{check_termed, check_transaction}
+use Rattle.transactions.specs.Check.{check_transaction}
 use Rattle.frames.specs.declared.frame.Framed.{Framed}
 use Rattle.frames.specs.declared.step.Loading.{Loading}
 use Rattle.frames.specs.declared.step.Step.{Step}
@@ -65,73 +64,41 @@ module _ (s : Loading) where
             (passed _ (ap not ok) (passed _ (ne_eqb _ _ more) (passed _ (le-ltb _ _ l) (passed _ (ne_eqb _ _ h) refl))))
 
   module _ (kind : ℕ) (b : List ℕ) (at : ℕ) where
-    other : (n : ℕ) → (kind ≡ n → ⊥) → eqb kind n ≡ false
-    other n h = ne_eqb kind n h
-
     pub judged-header : kind ≡ 1 → judged s kind b at ≡ check_header b at
     unfolding judged
     judged-header h = took _ (eq-eqb _ _ h) refl
 
-    pub judged-balances : kind ≡ 2 → judged s kind b at ≡ check_balances b at s.a
+    pub judged-balances : (kind ≡ 1 → ⊥) → kind ≡ 2 → judged s kind b at ≡ check_balances b at s.a
     unfolding judged
-    judged-balances h = passed _ (other 1 (omega arith)) (took _ (eq-eqb _ _ h) refl)
+    judged-balances n h = passed _ (ne_eqb _ _ n) (took _ (eq-eqb _ _ h) refl)
 
-    pub judged-transaction : kind ≡ 3 → judged s kind b at ≡ check_transaction b at s.a s.g
+    pub judged-transaction : (kind ≡ 1 → ⊥) → (kind ≡ 2 → ⊥) → kind ≡ 3 → judged s kind b at ≡ check_transaction b at s.a s.g
     unfolding judged
-    judged-transaction h = passed _ (other 1 (omega arith)) (passed _ (other 2 (omega arith)) (took _ (eq-eqb _ _ h) refl))
+    judged-transaction n o h = passed _ (ne_eqb _ _ n) (passed _ (ne_eqb _ _ o) (took _ (eq-eqb _ _ h) refl))
 
-    pub judged-termed : kind ≡ 6 → judged s kind b at ≡ check_termed b at s.a s.g
+    pub judged-block : (kind ≡ 1 → ⊥) → (kind ≡ 2 → ⊥) → (kind ≡ 3 → ⊥) → kind ≡ 4 → judged s kind b at ≡ check_block b at s.m
     unfolding judged
-    judged-termed h = passed _ (other 1 (omega arith)) (passed _ (other 2 (omega arith)) (passed _ (other 3 (omega arith)) (took _ (eq-eqb _ _ h) refl)))
+    judged-block n o q h = passed _ (ne_eqb _ _ n) (passed _ (ne_eqb _ _ o) (passed _ (ne_eqb _ _ q) (took _ (eq-eqb _ _ h) refl)))
 
-    pub judged-block : kind ≡ 4 → judged s kind b at ≡ check_block b at s.m
+    pub judged-unknown : (kind ≡ 1 → ⊥) → (kind ≡ 2 → ⊥) → (kind ≡ 3 → ⊥) → (kind ≡ 4 → ⊥) → judged s kind b at ≡ Checked.Refused (KindNotDue at)
     unfolding judged
-    judged-block h =
-        passed _ (other 1 (omega arith))
-        (passed _ (other 2 (omega arith)) (passed _ (other 3 (omega arith)) (passed _ (other 6 (omega arith)) (took _ (eq-eqb _ _ h) refl))))
+    judged-unknown n o q r = passed _ (ne_eqb _ _ n) (passed _ (ne_eqb _ _ o) (passed _ (ne_eqb _ _ q) (passed _ (ne_eqb _ _ r) refl)))
 
-    pub judged-unknown : (kind ≡ 1 → ⊥) → (kind ≡ 2 → ⊥) → (kind ≡ 3 → ⊥) → (kind ≡ 6 → ⊥) → (kind ≡ 4 → ⊥) → judged s kind b at ≡ Checked.Refused (KindNotDue at)
+    -- a frame that is fine is of one of the four kinds
+    pub judged-kind : judged s kind b at ≡ Checked.Fine → (kind ≡ 1) ⊎ ((kind ≡ 2) ⊎ ((kind ≡ 3) ⊎ (kind ≡ 4)))
     unfolding judged
-    judged-unknown n o q u r = passed _ (other 1 n) (passed _ (other 2 o) (passed _ (other 3 q) (passed _ (other 6 u) (passed _ (other 4 r) refl))))
-
--- a frame that is fine is of one of the five kinds
-pub data Kinds (kind : ℕ) : Type 0 where
-  header : kind ≡ 1 → Kinds kind
-  balances : kind ≡ 2 → Kinds kind
-  transaction : kind ≡ 3 → Kinds kind
-  termed : kind ≡ 6 → Kinds kind
-  block : kind ≡ 4 → Kinds kind
-
-pub judged-kind : (s : Loading) (kind : ℕ) (b : List ℕ) (at : ℕ) → judged s kind b at ≡ Checked.Fine → Kinds kind
-unfolding judged
-judged-kind s kind b at e =
-    ⊎_elim (λ q. header (eqb-true kind 1 q))
-    (λ p.
-    ⊎_elim (λ q. balances (eqb-true kind 2 q))
-    (λ r.
-    ⊎_elim (λ q. transaction (eqb-true kind 3 q))
-    (λ u.
-    ⊎_elim (λ q. termed (eqb-true kind 6 q))
-    (λ v. block (eqb-true kind 4 (⊎_elim (λ q. q) (λ w. absurd (refused_not_fine w.1)) (either (eqb kind 4) _ v.1))))
-    (either (eqb kind 6) _ u.1))
-    (either (eqb kind 3) _ r.1))
-    (either (eqb kind 2) _ p.1))
-    (either (eqb kind 1) _ e)
-
--- the kind with which a kind is due
-pub due_termed : (kind : ℕ) → kind ≡ 6 → due_with kind ≡ 3
-unfolding due_with
-due_termed kind h = took _ (eq-eqb _ _ h) refl
-
-pub due_itself : (kind : ℕ) → (kind ≡ 6 → ⊥) → due_with kind ≡ kind
-unfolding due_with
-due_itself kind h = passed _ (ne_eqb _ _ h) refl
-
-pub three_or_six : (kind : ℕ) → due_with kind ≡ 3 → (kind ≡ 3) ⊎ (kind ≡ 6)
-three_or_six kind e = elim (ℕ_discrete kind 6) [
-  | yes h ↦ inr h
-  | no h ↦ inl (sym (due_itself kind h) ∙ e)
-]
+    judged-kind e =
+        ⊎_elim (λ q. inl (eqb-true kind 1 q))
+        (λ p.
+        inr
+        (⊎_elim (λ q. inl (eqb-true kind 2 q))
+        (λ r.
+        inr
+        (⊎_elim (λ q. inl (eqb-true kind 3 q))
+        (λ u. inr (eqb-true kind 4 (⊎_elim (λ q. q) (λ v. absurd (refused_not_fine v.1)) (either (eqb kind 4) _ u.1))))
+        (either (eqb kind 3) _ r.1)))
+        (either (eqb kind 2) _ p.1)))
+        (either (eqb kind 1) _ e)
 
 -- what stands at the offset decides
 module _ (run : List ℕ) (at : ℕ) (s : Loading) where
@@ -139,10 +106,10 @@ module _ (run : List ℕ) (at : ℕ) (s : Loading) where
   unfolding step_at
   by_frame e = ap (after_frame s at (body_of (frame_at run at) run)) e
 
-  pub step-kind : {k start end : ℕ} → frame_at run at ≡ Framed.Whole k start end → (due_with k ≡ kind_due s → ⊥) → step_at run at s ≡ Step.Refused (KindNotDue at)
+  pub step-kind : {k start end : ℕ} → frame_at run at ≡ Framed.Whole k start end → (k ≡ kind_due s → ⊥) → step_at run at s ≡ Step.Refused (KindNotDue at)
   step-kind e n = by_frame e ∙ took _ (ap not (ne_eqb _ _ n)) refl
 
-  pub step-take : {k start end : ℕ} → frame_at run at ≡ Framed.Whole k start end → due_with k ≡ kind_due s
+  pub step-take : {k start end : ℕ} → frame_at run at ≡ Framed.Whole k start end → k ≡ kind_due s
       → step_at run at s ≡ after_check (loading_after s k (body_of (frame_at run at) run)) end (judged s k (body_of (frame_at run at) run) at)
   step-take e h = by_frame e ∙ passed _ (ap not (eq-eqb _ _ h)) refl
 
@@ -211,30 +178,22 @@ module _ (s : Loading) (run : List ℕ) (at : ℕ) (next : Loading) (end : ℕ) 
   end_no q = let z : ◌≡◌ {A = ℕ} 0 1 = cc in omega arith
 
   by_whole : (b : List ℕ) (k start e : ℕ) → after_frame s at b (Framed.Whole k start e) ≡ Step.Took next end
-      → (due_with k ≡ kind_due s) × (judged s k b at ≡ Checked.Fine) × (next ≡ loading_after s k b)
-  by_whole b k start e q =
-      let p = peel (not (eqb (due_with k) (kind_due s))) refused_no q in
-      let c = by_check b k e (judged s k b at) p.1 in
-      (eqb-true (due_with k) (kind_due s) (not-false _ p.0), c.0, c.1)
+      → (k ≡ kind_due s) × (after_check (loading_after s k b) e (judged s k b at) ≡ Step.Took next end)
+  by_whole b k start e q = let p = peel (not (eqb k (kind_due s))) refused_no q in (eqb-true k (kind_due s) (not-false _ p.0), p.1)
 
-  by_framed : (b : List ℕ) (f : Framed) → after_frame s at b f ≡ Step.Took next end
-      → (due_with (kind_of f) ≡ kind_due s) × (judged s (kind_of f) b at ≡ Checked.Fine) × (next ≡ loading_after s (kind_of f) b)
-  by_framed b (Framed.Whole k start e) q = by_whole b k start e q
+  by_framed : (b : List ℕ) (f : Framed) → after_frame s at b f ≡ Step.Took next end → (judged s (kind_due s) b at ≡ Checked.Fine) × (next ≡ loading_after s (kind_due s) b)
+  by_framed b (Framed.Whole k start e) q = let (due, p) = by_whole b k start e q in rw due at (by_check b k e (judged s k b at) p)
   by_framed b (Framed.Refused r) q = absurd (refused_no q)
   by_framed b Framed.End q = absurd (refused_no (peel (eqb (kind_due s) 4) end_no q).1)
 
-  module _ (q : step_at run at s ≡ Step.Took next end) where
-    pub took-due : due_with (kind_at run at) ≡ kind_due s
-    unfolding step_at
-    took-due = (by_framed (body_of (frame_at run at) run) (frame_at run at) q).0
+  -- of a frame, the kind due, ending where the step says
+  pub took_due : {k start e : ℕ} → frame_at run at ≡ Framed.Whole k start e → step_at run at s ≡ Step.Took next end → k ≡ kind_due s
+  took_due {k} {start} {e} f q = (by_whole (body_of (frame_at run at) run) k start e (sym (by_frame run at s f) ∙ q)).0
 
-    pub took-judged : judged s (kind_at run at) (body_at run at) at ≡ Checked.Fine
-    unfolding step_at
-    took-judged = (by_framed (body_of (frame_at run at) run) (frame_at run at) q).1
-
-    pub took-next : next ≡ loading_after s (kind_at run at) (body_at run at)
-    unfolding step_at
-    took-next = (by_framed (body_of (frame_at run at) run) (frame_at run at) q).2
+  pub took_judged : step_at run at s ≡ Step.Took next end
+      → (judged s (kind_due s) (body_of (frame_at run at) run) at ≡ Checked.Fine) × (next ≡ loading_after s (kind_due s) (body_of (frame_at run at) run))
+  unfolding step_at
+  took_judged q = by_framed (body_of (frame_at run at) run) (frame_at run at) q
 
 -- the sheet so far after a frame of each kind
 module _ (s : Loading) (kind : ℕ) (b : List ℕ) where
@@ -246,14 +205,14 @@ module _ (s : Loading) (kind : ℕ) (b : List ℕ) where
   unfolding loading_after
   after-balances h = passed _ (ne_eqb _ _ (λ (w : kind ≡ 1). omega arith)) (took _ (eq-eqb _ _ h) refl)
 
-  pub after-transaction : due_with kind ≡ 3 → s.loaded < s.t → loading_after s kind b ≡ record { m = s.m; a = s.a; g = s.g; t = s.t; stage = 2; loaded = s.loaded + 1 }
+  pub after-transaction : kind ≡ 3 → s.loaded < s.t → loading_after s kind b ≡ record { m = s.m; a = s.a; g = s.g; t = s.t; stage = 2; loaded = s.loaded + 1 }
   unfolding loading_after
   after-transaction h l =
-      passed _ (ne_eqb _ _ (λ (w : kind ≡ 1). omega (arith, due_itself kind (λ (u : kind ≡ 6). omega arith))))
-      (passed _ (ne_eqb _ _ (λ (w : kind ≡ 2). omega (arith, due_itself kind (λ (u : kind ≡ 6). omega arith)))) (took _ (eq-eqb _ _ h) (took _ (lt-ltb _ _ l) refl)))
+      passed _ (ne_eqb _ _ (λ (w : kind ≡ 1). omega arith))
+      (passed _ (ne_eqb _ _ (λ (w : kind ≡ 2). omega arith)) (took _ (eq-eqb _ _ h) (took _ (lt-ltb _ _ l) refl)))
 
   pub after_block : kind ≡ 4 → loading_after s kind b ≡ s
   unfolding loading_after
   after_block h =
       passed _ (ne_eqb _ _ (λ (w : kind ≡ 1). omega arith))
-      (passed _ (ne_eqb _ _ (λ (w : kind ≡ 2). omega arith)) (passed _ (ne_eqb _ _ (λ (w : due_with kind ≡ 3). omega (arith, due_itself kind (λ (u : kind ≡ 6). omega arith)))) refl))
+      (passed _ (ne_eqb _ _ (λ (w : kind ≡ 2). omega arith)) (passed _ (ne_eqb _ _ (λ (w : kind ≡ 3). omega arith)) refl))

@@ -39,12 +39,3 @@ abbrev pub start_of : Framed → ℕ
 start_of (Whole k start end) = start
 start_of (Refused r) = 0
 start_of End = 0
-
--- the kind of the frame at an offset, 0 where there is none
-abbrev pub kind_of : Framed → ℕ
-kind_of (Whole k start end) = k
-kind_of (Refused r) = 0
-kind_of End = 0
-
-abbrev pub kind_at : List ℕ → ℕ → ℕ
-kind_at run at = kind_of (frame_at run at)

@@ -1,4 +1,4 @@
--- One frame of a run, judged by the sheet so far (document 01, "Slips": "A run is one head, one starts slip, t transactions in number order, then blocks"; request 03: transactions are of kind 3 or 6).
+-- One frame of a run, judged by the sheet so far (document 01, "Slips": "A run is one head, one starts slip, t transactions in number order, then blocks").
 -- Assumes nothing.
 use Rattle.std.specs.Prelude.{◌+◌, ℕ, eqb, ltb, not, List}
 use Rattle.fields.specs.Number.{le}
@@ -7,7 +7,7 @@ use Rattle.frames.specs.Block.{check_block}
 use Rattle.frames.specs.Frame.{body_of, frame_at}
 use Rattle.frames.specs.Header.{check_header, header_ok}
 use Rattle.sums.specs.Test.{pick}
-use Rattle.transactions.specs.Check.{check_termed, check_transaction}
+use Rattle.transactions.specs.Check.{check_transaction}
 use Rattle.frames.specs.declared.frame.Framed.{Framed}
 use Rattle.frames.specs.declared.step.Loading.{Loading}
 use Rattle.frames.specs.declared.step.Step.{Step}
@@ -22,17 +22,12 @@ kind_due s =
     (pick (not (header_ok s.m s.a s.g s.t)) 0
     (pick (eqb s.stage 1) 2 (pick (ltb s.loaded s.t) 3 (pick (eqb s.loaded s.t) 4 0))))
 
--- request 03, "Kinds 3 and 6 may be mixed": a frame of kind 6 is due where one of kind 3 is, any other where its own kind is
-unfoldable pub due_with : ℕ → ℕ
-due_with kind = pick (eqb kind 6) 3 kind
-
--- refusals 4 to 7 by the kind; a kind that is none of the five is unknown, and stays refused by 3 whatever the sheet so far
+-- refusals 4 to 7 by the kind; a kind that is none of the four is unknown, and stays refused by 3 whatever the sheet so far
 unfoldable pub judged : Loading → ℕ → List ℕ → ℕ → Checked
 judged s kind b at =
     pick (eqb kind 1) (check_header b at)
     (pick (eqb kind 2) (check_balances b at s.a)
-    (pick (eqb kind 3) (check_transaction b at s.a s.g)
-    (pick (eqb kind 6) (check_termed b at s.a s.g) (pick (eqb kind 4) (check_block b at s.m) (Checked.Refused (KindNotDue at))))))
+    (pick (eqb kind 3) (check_transaction b at s.a s.g) (pick (eqb kind 4) (check_block b at s.m) (Checked.Refused (KindNotDue at)))))
 
 -- the sheet so far after a header, and after a frame of a kind
 unfoldable pub header_loaded : List ℕ → Loading
@@ -42,7 +37,7 @@ unfoldable pub loading_after : Loading → ℕ → List ℕ → Loading
 loading_after s kind b =
     pick (eqb kind 1) (header_loaded b)
     (pick (eqb kind 2) (record { m = s.m; a = s.a; g = s.g; t = s.t; stage = 2; loaded = 0 })
-    (pick (eqb (due_with kind) 3)
+    (pick (eqb kind 3)
     (pick (ltb s.loaded s.t) (record { m = s.m; a = s.a; g = s.g; t = s.t; stage = 2; loaded = s.loaded + 1 }) s)
     s))
 
@@ -54,7 +49,7 @@ after_check next end (Checked.Refused r) = Step.Refused r
 -- by what stands at the offset: 3 where the kind is not due, then 4 to 7; where no byte is left, the run's end once the sheet is complete, else 1
 abbrev pub after_frame : Loading → ℕ → List ℕ → Framed → Step
 after_frame s at b (Framed.Whole k start end) =
-    pick (not (eqb (due_with k) (kind_due s))) (Step.Refused (KindNotDue at)) (after_check (loading_after s k b) end (judged s k b at))
+    pick (not (eqb k (kind_due s))) (Step.Refused (KindNotDue at)) (after_check (loading_after s k b) end (judged s k b at))
 after_frame s at b (Framed.Refused r) = Step.Refused r
 after_frame s at b Framed.End = pick (eqb (kind_due s) 4) Step.End (Step.Refused (Short at))
 

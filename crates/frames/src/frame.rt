@@ -1,6 +1,6 @@
 // Frames in a run: where each stands, and its body as a part of the caller's bytes (refusals 1 and 2).
 ghost use Rattle.std.specs.Prelude.{◌≡◌, ◌+◌};
-ghost use Rattle.frames.specs.Frame.{body_at, frame_at, kind_at, start_of};
+ghost use Rattle.frames.specs.Frame.{body_at, frame_at, start_of};
 
 use fields::{u16_at, u32_at};
 use refusals::Refusal;
@@ -55,20 +55,5 @@ pub fn body(run: &[u8], at: usize) -> &[u8]
         } => &run[start..end],
         Framed::Refused(_) => &run[..0],
         Framed::End => &run[..0],
-    }
-}
-
-// The kind of the frame at an offset, 0 where there is none.
-pub fn kind_at(run: &[u8], at: usize) -> u16
-    ensures { result ≡ kind_at run.now at }
-{
-    match frame(run, at) {
-        Framed::Whole {
-            kind,
-            start: _,
-            end: _,
-        } => kind,
-        Framed::Refused(_) => 0,
-        Framed::End => 0,
     }
 }

@@ -1,6 +1,6 @@
 // One frame of a run, judged by the sheet so far: which kind is due, refusals 1 to 7 in their order, and the sheet then.
 ghost use Rattle.std.specs.Prelude.{◌≡◌};
-ghost use Rattle.frames.specs.Step.{after_check, due_with, header_loaded, judged, kind_due, loading_after, step_at};
+ghost use Rattle.frames.specs.Step.{after_check, header_loaded, judged, kind_due, loading_after, step_at};
 
 use crate::balances::check_balances;
 use crate::block::check_block;
@@ -8,7 +8,7 @@ use crate::frame::{Framed, body, frame};
 use crate::header::{check_header, header_ok};
 use fields::u16_at;
 use refusals::{Checked, Refusal};
-use transactions::check::{check_termed, check_transaction};
+use transactions::check::check_transaction;
 
 // The sheet so far: the header's numbers; stage 0 before the header, 1 after it, 2 after the balances; how many
 // transactions were taken.
@@ -52,13 +52,6 @@ pub fn kind_due(s: Loading) -> u16
     0
 }
 
-// The kind with which a kind is due: 6 where 3 is, any other by itself.
-fn due_with(kind: u16) -> u16
-    ensures { result ≡ due_with kind }
-{
-    if kind == 6 { 3 } else { kind }
-}
-
 fn judge(s: Loading, kind: u16, b: &[u8], at: usize) -> Checked
     ensures { result ≡ judged s kind b.now at }
 {
@@ -70,9 +63,6 @@ fn judge(s: Loading, kind: u16, b: &[u8], at: usize) -> Checked
     }
     if kind == 3 {
         return check_transaction(b, at, s.a, s.g);
-    }
-    if kind == 6 {
-        return check_termed(b, at, s.a, s.g);
     }
     if kind == 4 {
         return check_block(b, at, s.m);
@@ -109,7 +99,7 @@ fn loading_after(s: Loading, kind: u16, b: &[u8]) -> Loading
             loaded: 0,
         };
     }
-    if due_with(kind) == 3 {
+    if kind == 3 {
         if s.loaded < s.t {
             return Loading {
                 m: s.m,
@@ -142,7 +132,7 @@ pub fn next_frame(run: &[u8], at: usize, s: Loading) -> Step
             start: _,
             end,
         } => {
-            if due_with(kind) != kind_due(s) {
+            if kind != kind_due(s) {
                 Step::Refused(Refusal::KindNotDue(at))
             } else {
                 take_checked(s, kind, body(run, at), at, end)

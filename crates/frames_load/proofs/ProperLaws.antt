@@ -5,22 +5,22 @@ use lib.ListN.{get_or-append, get_or, length}
 use lib.Seq.{get_or-append-add}
 use mathlib.Core.Bool.{true}
 use mathlib.Core.List.{List, [], ◌++◌, ◌∷◌}
-use mathlib.Core.Logic.{⊎_elim}
+use mathlib.Core.Logic.{◌⊎◌, inl, inr, ⊎_elim}
 use mathlib.Core.Path.{◌∙◌, ◌≡◌, ap, refl}
 use native.Mathlib.Nat.{eq-or-lt_of_le}
 use native.Mathlib.Omega.{arith}
-use Rattle.frames.proofs.StepLaws.{Kinds, after-balances, after_block, after-header, after-transaction, due_four, due_header_ok, due_itself, due_late, due_termed, due_three, judged-kind, took-judged, took-next}
+use Rattle.frames.proofs.StepLaws.{after-balances, after_block, after-header, after-transaction, due_four, due_header_ok, due_late, due_three, judged-kind, took_judged}
 use Rattle.frames.specs.Balances.{balances_ok}
-use Rattle.frames.specs.Frame.{body_at, kind_at}
+use Rattle.frames.specs.Frame.{body_at}
 use Rattle.frames.specs.Header.{header_of, header_ok}
 use Rattle.sheets.specs.Sheet.{Sheet, balance_in, sheet_from, slot_from, transaction_in}
-use Rattle.frames.specs.Step.{due_with, header_loaded, kind_due, loading_after, step_at}
-use Rattle.frames_load.proofs.LoadLaws.{length_stored, load-adds, room_is, took_balances, took_four, took_header, took_it, took-judgement, took-three, took_two}
+use Rattle.frames.specs.Step.{header_loaded, kind_due, loading_after, step_at}
+use Rattle.frames_load.proofs.LoadLaws.{length_stored, load-adds, room_is, took_balances, took_header, took_it, took_judgement}
 use Rattle.frames_load.specs.Load.{Loads, sheet_so_far, with_balances}
 use Rattle.frames_load.specs.Proper.{CompleteSheet, IsComplete, Loaded, ProperSoFar}
 use Rattle.sheets.proofs.ProperLaws.{proper_so}
 use Rattle.sums.proofs.SeqLaws.{length-tabulate}
-use Rattle.transactions.specs.Body.{transaction_by}
+use Rattle.transactions.specs.Body.{transaction_of}
 use Rattle.transactions.specs.Check.{judge_transaction}
 use Rattle.transactions.specs.Content.{Transaction, no_transaction}
 use Rattle.frames.specs.declared.step.Loading.{Loading}
@@ -87,72 +87,63 @@ length_so_far s cells = length-tabulate s.loaded (transaction_in s.a cells)
 -- a frame that was taken
 module _ (run : List ℕ) (at : ℕ) (s : Loading) (before after : List ℕ) (next : Loading) (end : ℕ) (l : Loads run at s before after (Step.Took next end))
     (so_far : ProperSoFar s (sheet_so_far s before)) where
+  B : List ℕ
+  B = body_at run at
+
   step : step_at run at s ≡ Step.Took next end
   step = (took_it run at s before after next end l).step
 
-  next_is : next ≡ loading_after s (kind_at run at) (body_at run at)
-  next_is = took-next s run at next end step
+  next_is : next ≡ loading_after s (kind_due s) (body_at run at)
+  next_is = (took_judged s run at next end step).1
 
-  transaction_so_far : due_with (kind_at run at) ≡ 3 → ProperSoFar next (sheet_so_far next after)
-  transaction_so_far e =
-      let three = took-three s run at next end step e in
-      let late = due_late s 3 (omega arith) three in
-      let l3 = due_three s three in
-      rw ((load-adds run at s before after next end l).transaction e, next_is ∙ after-transaction s (kind_at run at) (body_at run at) e l3)
+  by_kind : (kind_due s ≡ 1) ⊎ ((kind_due s ≡ 2) ⊎ ((kind_due s ≡ 3) ⊎ (kind_due s ≡ 4))) → ProperSoFar next (sheet_so_far next after)
+  by_kind (inl e) = rw (next_is ∙ after-header s (kind_due s) (body_at run at) e) (header_so_far (body_at run at) _ (took_header s run at next end step e))
+  by_kind (inr (inl e)) =
+      rw ((load-adds run at s before after next end l).balances e, next_is ∙ after-balances s (kind_due s) (body_at run at) e)
+      (balances_so_far s (with_balances s (body_at run at)) (due_header_ok s 2 (omega arith) e) (took_balances s run at next end step e).1)
+  by_kind (inr (inr (inl e))) =
+      let late = due_late s 3 (omega arith) e in
+      let l3 = due_three s e in
+      rw ((load-adds run at s before after next end l).transaction e, next_is ∙ after-transaction s (kind_due s) (body_at run at) e l3)
       (record {
         header = λ h. so_far.header (omega arith);
         count = λ h. omega arith;
         balances = λ h. so_far.balances late;
-        transactions = λ h. transactions-more s.a s.g s.loaded (sheet_so_far s before).transactions (transaction_by (kind_at run at) (body_at run at)) (length_so_far s before)
-            (so_far.transactions late) (took-judgement s run at next end step e);
+        transactions = λ h. transactions-more s.a s.g s.loaded (sheet_so_far s before).transactions (transaction_of (body_at run at)) (length_so_far s before) (so_far.transactions late) (took_judgement s run at next end step e);
       })
-
-  by_kind : Kinds (kind_at run at) → ProperSoFar next (sheet_so_far next after)
-  by_kind (Kinds.header e) = rw (next_is ∙ after-header s (kind_at run at) (body_at run at) e) (header_so_far (body_at run at) _ (took_header s run at next end step e))
-  by_kind (Kinds.balances e) =
-      rw ((load-adds run at s before after next end l).balances e, next_is ∙ after-balances s (kind_at run at) (body_at run at) e)
-      (balances_so_far s (with_balances s (body_at run at)) (due_header_ok s 2 (omega arith) (took_two s run at next end step e)) (took_balances s run at next end step e).1)
-  by_kind (Kinds.transaction e) = transaction_so_far (due_itself (kind_at run at) (λ (w : kind_at run at ≡ 6). omega arith) ∙ e)
-  by_kind (Kinds.termed e) = transaction_so_far (due_termed (kind_at run at) e)
-  by_kind (Kinds.block e) =
+  by_kind (inr (inr (inr e))) =
       let k = (load-adds run at s before after next end l).block e in
       rw (k.0, k.1) so_far
 
   -- so far proper, and after the step so far proper
   pub load-proper : ProperSoFar next (sheet_so_far next after)
-  load-proper = by_kind (judged-kind s (kind_at run at) (body_at run at) at (took-judged s run at next end step))
+  load-proper = by_kind (judged-kind s (kind_due s) (body_at run at) at (took_judged s run at next end step).0)
 
 -- once the balances were taken there is room for the whole sheet
 module _ (run : List ℕ) (at : ℕ) (s : Loading) (before after : List ℕ) (next : Loading) (end : ℕ) (l : Loads run at s before after (Step.Took next end)) where
   same_room : (k : ℕ) → 2 ≤ k → kind_due s ≡ k → next.a ≡ s.a → next.t ≡ s.t → slot_from next.a next.t ≤ length after
   same_room k h e a t =
       let T = took_it run at s before after next end l in
-      let long : length after ≡ length before = ap length T.stored ∙ length_stored s (kind_at run at) (body_at run at) before in
+      let long : length after ≡ length before = ap length T.stored ∙ length_stored s (body_at run at) before in
       rw (a, t) (omega (arith, T.wide, room_is s k h e, long))
-
-  transaction-room : due_with (kind_at run at) ≡ 3 → slot_from next.a next.t ≤ length after
-  transaction-room e =
-      let step = (took_it run at s before after next end l).step in
-      let three = took-three s run at next end step e in
-      let q = took-next s run at next end step ∙ after-transaction s (kind_at run at) (body_at run at) e (due_three s three) in
-      same_room 3 (omega arith) three (ap (λ (n : Loading). n.a) q) (ap (λ (n : Loading). n.t) q)
 
   pub load-room : 2 ≤ next.stage → slot_from next.a next.t ≤ length after
   unfolding header_loaded
   load-room late =
-      let step = (took_it run at s before after next end l).step in
-      by_kind step (took-next s run at next end step) (judged-kind s (kind_at run at) (body_at run at) at (took-judged s run at next end step))
+      let J = took_judged s run at next end (took_it run at s before after next end l).step in
+      by_kind J.1 (judged-kind s (kind_due s) (body_at run at) at J.0)
     where
-      by_kind : step_at run at s ≡ Step.Took next end → next ≡ loading_after s (kind_at run at) (body_at run at) → Kinds (kind_at run at) → slot_from next.a next.t ≤ length after
-      by_kind step is (Kinds.header e) = absurd (omega (arith, late, ap (λ (n : Loading). n.stage) (is ∙ after-header s (kind_at run at) (body_at run at) e)))
-      by_kind step is (Kinds.balances e) =
-          let q = is ∙ after-balances s (kind_at run at) (body_at run at) e in
-          same_room 2 (omega arith) (took_two s run at next end step e) (ap (λ (n : Loading). n.a) q) (ap (λ (n : Loading). n.t) q)
-      by_kind step is (Kinds.transaction e) = transaction-room (due_itself (kind_at run at) (λ (w : kind_at run at ≡ 6). omega arith) ∙ e)
-      by_kind step is (Kinds.termed e) = transaction-room (due_termed (kind_at run at) e)
-      by_kind step is (Kinds.block e) =
-          let q = is ∙ after_block s (kind_at run at) (body_at run at) e in
-          same_room 4 (omega arith) (took_four s run at next end step e) (ap (λ (n : Loading). n.a) q) (ap (λ (n : Loading). n.t) q)
+      by_kind : next ≡ loading_after s (kind_due s) (body_at run at) → (kind_due s ≡ 1) ⊎ ((kind_due s ≡ 2) ⊎ ((kind_due s ≡ 3) ⊎ (kind_due s ≡ 4))) → slot_from next.a next.t ≤ length after
+      by_kind is (inl e) = absurd (omega (arith, late, ap (λ (n : Loading). n.stage) (is ∙ after-header s (kind_due s) (body_at run at) e)))
+      by_kind is (inr (inl e)) =
+          let q = is ∙ after-balances s (kind_due s) (body_at run at) e in
+          same_room 2 (omega arith) e (ap (λ (n : Loading). n.a) q) (ap (λ (n : Loading). n.t) q)
+      by_kind is (inr (inr (inl e))) =
+          let q = is ∙ after-transaction s (kind_due s) (body_at run at) e (due_three s e) in
+          same_room 3 (omega arith) e (ap (λ (n : Loading). n.a) q) (ap (λ (n : Loading). n.t) q)
+      by_kind is (inr (inr (inr e))) =
+          let q = is ∙ after_block s (kind_due s) (body_at run at) e in
+          same_room 4 (omega arith) e (ap (λ (n : Loading). n.a) q) (ap (λ (n : Loading). n.t) q)
 
 -- so it holds of every state that calls of `load` reach
 pub loaded_proper : {s : Loading} {cells : List ℕ} → Loaded s cells → ProperSoFar s (sheet_so_far s cells)

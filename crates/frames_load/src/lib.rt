@@ -1,17 +1,11 @@
 // The sheet of a run, loaded frame by frame into the caller's cells.
-ghost use Rattle.std.proofs.lemmas.List.Edits.{sets};
-ghost use Rattle.std.specs.Prelude.{◌++◌, ◌≡◌};
+ghost use Rattle.std.specs.Prelude.{◌≡◌};
 ghost use Rattle.frames_load.specs.Load.{LoadStep, body_stored, room};
-ghost use Rattle.sheets.specs.Sheet.{slot_from};
-ghost use Rattle.transactions.specs.Body.{term_bytes};
-ghost use Rattle.transactions.specs.Content.{highest_rank};
 
-use fields::{put_bytes, put_u32};
-use frames::frame::{body, kind_at};
-use frames::step::{Loading, Step, next_frame};
+use fields::put_bytes;
+use frames::frame::body;
+use frames::step::{Loading, Step, kind_due, next_frame};
 use refusals::Refusal;
-use sheets::sheet::slot_from;
-use transactions::check::HIGHEST_RANK;
 
 // The bytes that the sheet takes, once its header is known.
 pub fn room_of(s: Loading) -> usize
@@ -20,34 +14,20 @@ pub fn room_of(s: Loading) -> usize
     if s.stage == 0 {
         return 0;
     }
-    slot_from(s.a, s.t)
+    8 * (s.a as usize) + 100 * (s.t as usize)
 }
 
-// The body of a transaction of kind 3 to its slot, with the whole term behind its lists.
-fn put_whole(sheet: &mut [u8], s: Loading, b: &[u8])
-    ensures { sheet.new ≡ sets sheet.old (slot_from s.a s.loaded) (b.now ++ term_bytes 1 highest_rank) }
+// A body that was taken, to its place.
+fn store(sheet: &mut [u8], s: Loading, b: &[u8])
+    ensures { sheet.new ≡ body_stored s b.now sheet.old }
 {
-    let at = slot_from(s.a, s.loaded);
-    let end = at + b.len();
-    put_bytes(sheet, at, b);
-    put_u32(sheet, end, 1);
-    put_u32(sheet, end + 4, HIGHEST_RANK);
-}
-
-// A body that was taken, to its place by the kind of its frame.
-fn store(sheet: &mut [u8], s: Loading, kind: u16, b: &[u8])
-    ensures { sheet.new ≡ body_stored s kind b.now sheet.old }
-{
+    let kind = kind_due(s);
     if kind == 2 {
         put_bytes(sheet, 0, b);
         return;
     }
     if kind == 3 {
-        put_whole(sheet, s, b);
-        return;
-    }
-    if kind == 6 {
-        put_bytes(sheet, slot_from(s.a, s.loaded), b);
+        put_bytes(sheet, 8 * (s.a as usize) + 100 * (s.loaded as usize), b);
     }
 }
 
@@ -62,7 +42,7 @@ pub fn load(run: &[u8], at: usize, s: Loading, sheet: &mut [u8]) -> Step
     let step = next_frame(run, at, s);
     match step {
         Step::Took(next, end) => {
-            store(sheet, s, kind_at(run, at), body(run, at));
+            store(sheet, s, body(run, at));
             Step::Took(next, end)
         }
         Step::Refused(r) => Step::Refused(r),

@@ -22,8 +22,8 @@ pub last_none : (f : ℕ → ℕ) (n : ℕ) → n ≤ 0 → last_of f n ≡ 0
 last_none f n h = pick-false (ltb 0 n) (f (n - 1)) 0 (le-ltb 0 n h)
 
 -- the last of one more is the new one
-pub last-next : (f : ℕ → ℕ) (n : ℕ) → last_of f (n + 1) ≡ f n
-last-next f n = last_some f (n + 1) (omega arith) ∙ ap f (let e : n + 1 - 1 ≡ n = omega arith in e)
+pub last_next : (f : ℕ → ℕ) (n : ℕ) → last_of f (n + 1) ≡ f n
+last_next f n = last_some f (n + 1) (omega arith) ∙ ap f (let e : n + 1 - 1 ≡ n = omega arith in e)
 
 -- it hangs on the first n alone
 pub last_ext : (f g : ℕ → ℕ) (n : ℕ) → ((k : ℕ) → k < n → f k ≡ g k) → last_of f n ≡ last_of g n

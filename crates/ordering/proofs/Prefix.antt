@@ -10,7 +10,7 @@ use native.Mathlib.Decide.{dec_lt, ℕ_discrete}
 use native.Mathlib.Nat.{le_refl}
 use native.Mathlib.Numerals.{add-one}
 use native.Mathlib.Omega.{arith}
-use Rattle.ordering.proofs.Laws.{last-next, last_some, log-more}
+use Rattle.ordering.proofs.Laws.{last_next, last_some, log-more}
 use Rattle.ordering.specs.Order.{Ref, bar_of, ceiling_of, entry_at, global_log, key_of, last_of, log_to, ref_of, seek}
 use Rattle.ordering.specs.Table.{Climbs, Ordered, block_id, ref_in}
 use Rattle.sums.proofs.SeqLaws.{all_append, all_map}
@@ -32,7 +32,7 @@ ascends_place f b up p q h l e = elim (dec_lt p q) [ yes s ↦ absurd (omega (ar
 pub climbs_ascends : (f : ℕ → ℕ) (b : ℕ) → Climbs f b → Ascends f b
 climbs_ascends f b up p zero h l = absurd (omega arith)
 climbs_ascends f b up p (suc q) h l =
-    let next : f q < f (suc q) = omega (arith, up (suc q) l, last-next f q, ap (last_of f) (add-one q)) in
+    let next : f q < f (suc q) = omega (arith, up (suc q) l, last_next f q, ap (last_of f) (add-one q)) in
     elim (ℕ_discrete p q) [ yes e ↦ omega (arith, ap f e) | no e ↦ omega (arith, climbs_ascends f b up p q (omega arith) (omega arith)) ]
 
 -- what follows has a higher rank than the last of the first n, also where there was none

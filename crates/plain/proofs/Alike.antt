@@ -32,17 +32,17 @@ alike_extends S H H' a = record { longer = λ j l. omega (arith, a.heights j l);
 -- ---- the same answers
 
 -- what the block before says, 0 if none
-last-alike : {h h' : ℕ} (f g : ℕ → ℕ) → h ≡ h' → ((n : ℕ) → n < h → f n ≡ g n) → last_of f h ≡ last_of g h'
-last-alike {h} f g e same = last_ext f g h same ∙ ap (last_of g) e
+last_alike : {h h' : ℕ} (f g : ℕ → ℕ) → h ≡ h' → ((n : ℕ) → n < h → f n ≡ g n) → last_of f h ≡ last_of g h'
+last_alike {h} f g e same = last_ext f g h same ∙ ap (last_of g) e
 
 module _ (S : Sheet) (H H' : History) (b : Values) (a : Alike S.m H H') (l : b.instance < S.m) where
-  last-rank-alike : last_rank H b.instance ≡ last_rank H' b.instance
+  last_rank-alike : last_rank H b.instance ≡ last_rank H' b.instance
   unfolding last_rank
-  last-rank-alike = last-alike (H.rank b.instance) (H'.rank b.instance) (a.heights b.instance l) (λ n u. a.ranks b.instance n l u)
+  last_rank-alike = last_alike (H.rank b.instance) (H'.rank b.instance) (a.heights b.instance l) (λ n u. a.ranks b.instance n l u)
 
-  last-entry-alike : (e : ℕ) → e < S.m → last_entry H b.instance e ≡ last_entry H' b.instance e
+  last_entry-alike : (e : ℕ) → e < S.m → last_entry H b.instance e ≡ last_entry H' b.instance e
   unfolding last_entry
-  last-entry-alike e k = last-alike (λ n. H.entry b.instance n e) (λ n. H'.entry b.instance n e) (a.heights b.instance l) (λ n u. a.entries b.instance n e l u k)
+  last_entry-alike e k = last_alike (λ n. H.entry b.instance n e) (λ n. H'.entry b.instance n e) (a.heights b.instance l) (λ n u. a.entries b.instance n e l u k)
 
   cite_alike : (q : ℕ) → cite_answer S H b q ≡ cite_answer S H' b q
   unfolding cite_answer cited_before
@@ -61,13 +61,13 @@ block-alike S H H' b a =
     let h : H.height b.instance ≡ H'.height b.instance = a.heights b.instance l in
     then_ext _ _ _ _ (ap (λ (n : ℕ). refuse (leb 128 n) 17 0) h) (λ t17.
     then_ext _ _ _ _ (ap (λ (n : ℕ). refuse (not (eqb b.number (n + 1))) 9 (n + 1)) h) (λ t9.
-    then_ext _ _ _ _ (ap (λ (r : ℕ). refuse (leb b.rank r) 10 r) (last-rank-alike S H H' b a l)) (λ t10.
+    then_ext _ _ _ _ (ap (λ (r : ℕ). refuse (leb b.rank r) 10 r) (last_rank-alike S H H' b a l)) (λ t10.
     then_ext _ _ _ _ (first_to_ext S.m _ _ (λ e u. entries e u l)) (λ t11.
     then_ext _ _ _ _ (first_to_ext S.m _ _ (λ e u. ap (λ (n : ℕ). refuse (ltb n (get_or b.cut e 0)) 12 e) (a.heights e u))) (λ t12.
     first_to_ext (length b.cites) _ _ (λ q u. cite_alike S H H' b a l q)))))))
   where
     entries : (e : ℕ) → e < S.m → b.instance < S.m → refuse (entry_off H b e) 11 e ≡ refuse (entry_off H' b e) 11 e
-    entries e u l = unfold entry_off in ap (λ (n : ℕ). refuse (pick (both (eqb e b.instance) (not (eqb (get_or b.cut e 0) (b.number - 1)))) true (ltb (get_or b.cut e 0) n)) 11 e) (last-entry-alike S H H' b a l e u)
+    entries e u l = unfold entry_off in ap (λ (n : ℕ). refuse (pick (both (eqb e b.instance) (not (eqb (get_or b.cut e 0) (b.number - 1)))) true (ltb (get_or b.cut e 0) n)) 11 e) (last_entry-alike S H H' b a l e u)
 
 pub answer-alike : (S : Sheet) (H H' : History) (o : Offer) → Alike S.m H H' → answer S H o ≡ answer S H' o
 unfolding answer

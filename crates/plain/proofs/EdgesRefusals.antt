@@ -4,14 +4,14 @@ use mathlib.Core.List.{[], ◌++◌, ◌∷◌, foldl}
 use mathlib.Core.Bool.{true}
 use mathlib.Core.Path.{◌≡◌, refl}
 use Rattle.escrow.specs.Amounts.{covered_by, credited, debit_at, free, free_by, held, held_by, part_good, reserved}
-use Rattle.escrow.specs.Outcome.{depth, full_view, judge, judged_to, outcome, rows_of, serves, view_of}
+use Rattle.escrow.specs.Outcome.{depth, full_view, judge, judged_to, outcome, rows_of, view_of}
 use Rattle.escrow.specs.Report.{rows_all}
 use Rattle.escrow.specs.Share.{nearest, share_of, thousandths}
 use Rattle.frames.specs.Frame.{frame_at}
 use Rattle.frames.specs.Header.{header_ok}
 use Rattle.frames.specs.Balances.{balances_ok}
 use Rattle.frames.specs.Step.{kind_due, step_at}
-use Rattle.transactions.specs.Check.{entry_ok, operation_ok, counts_ok, in_range, lists_in_range, term_ok, accounts_once, balanced, judge_transaction}
+use Rattle.transactions.specs.Check.{entry_ok, operation_ok, counts_ok, in_range, accounts_once, balanced, judge_transaction}
 use Rattle.sheets.specs.Proper.{is_proper}
 use Rattle.ordering.specs.Order.{entry_at, global_log, log_to, seek}
 use Rattle.plain.proofs.Edges.{◌&◌}
@@ -30,8 +30,7 @@ use Rattle.sums.specs.Seq.{All, tabulate}
 use Rattle.sums.specs.Sum.{sum_to}
 use Rattle.sums.specs.Test.{all_to, any_to, given, pick}
 use Rattle.settlement.specs.Books.{booked, counted, run_all, settled, step}
-use Rattle.sheets.specs.Operations.{operate, operate_to, operated, operated_at}
-use Rattle.transactions.specs.Content.{in_term}
+use Rattle.sheets.specs.Operations.{operate, operate_to, operated}
 use Rattle.settlement.specs.Settlement.{cited, contracts, failed, is_cite, is_fail, payment, status}
 use Rattle.sheets.specs.Parts.{amount_on, has_part, home, is_contract, parts}
 use Rattle.settlement.specs.View.{block_events, event_at, log_events, view_log, view_sum}
@@ -41,7 +40,7 @@ use Rattle.sheets.specs.Sheet.{Sheet}
 
 -- the sheets are proper
 pub sheets_proper : All (λ (S : Sheet). is_proper S ≡ true) (three_pay ∷ many_pay ∷ last_sheet ∷ [])
-unfolding sum_to pick all_to any_to header_ok balances_ok entry_ok operation_ok counts_ok lists_in_range term_ok in_range accounts_once balanced judge_transaction is_proper
+unfolding sum_to pick all_to any_to header_ok balances_ok entry_ok operation_ok counts_ok in_range accounts_once balanced judge_transaction is_proper
 sheets_proper = refl & refl & refl & tt
 
 -- ---- values
@@ -83,7 +82,7 @@ frames_refused = refl & refl & refl & refl & refl & refl & refl & refl & refl & 
 
 pub frames-near : All Gives frames_near
 unfolding tabulate pick le check_block cites_of cut_of frame_at parse any_to home has_part ◌then◌ refuse first_to appended history_of offer_needs lent_answer unused_set front_answer values_answer last_rank last_entry entry_off cited_before cite_answer block_answer idle_answer answer next ledger
-frames-near = refl & refl & refl & refl & refl & refl & refl & refl & refl & refl & refl & refl & refl & refl & refl & refl & tt
+frames-near = refl & refl & refl & refl & refl & refl & refl & refl & refl & refl & refl & refl & refl & refl & refl & tt
 
 pub frames-wide : All Gives frames_wide
 unfolding tabulate pick le check_block cites_of cut_of frame_at parse any_to home has_part ◌then◌ refuse first_to appended history_of offer_needs lent_answer unused_set front_answer values_answer last_rank last_entry entry_off cited_before cite_answer block_answer idle_answer answer next ledger
@@ -139,6 +138,6 @@ pub more-refused : answer many_pay (history_of []) (values (offer_needs many_pay
 unfolding tabulate pick any_to home has_part ◌then◌ refuse first_to appended history_of offer_needs lent_answer unused_set front_answer values_answer last_rank last_entry entry_off cited_before cite_answer block_answer idle_answer answer next ledger
 more-refused = refl
 
-pub last-place : report_of last_sheet last_logs ≡ last_report
-unfolding tabulate sum_to pick given any_to all_to least_from seek entry_at log_to global_log credited debit_at reserved held_by free_by free held part_good covered_by operate operate_to operated operated_at in_term counted settled booked step run_all rows_of view_of full_view judge serves judged_to depth outcome rows_all share_of thousandths nearest is_cite is_fail cited failed payment contracts status home amount_on has_part parts is_contract event_at view_sum view_log block_events log_events history_of report_by report_of
-last-place = refl
+pub last_place : report_of last_sheet last_logs ≡ last_report
+unfolding tabulate sum_to pick given any_to all_to least_from seek entry_at log_to global_log credited debit_at reserved held_by free_by free held part_good covered_by operate operate_to operated counted settled booked step run_all rows_of view_of full_view judge judged_to depth outcome rows_all share_of thousandths nearest is_cite is_fail cited failed payment contracts status home amount_on has_part parts is_contract event_at view_sum view_log block_events log_events history_of report_by report_of
+last_place = refl

@@ -1,7 +1,7 @@
 -- The edges of document 01 that are marked P, as rows of one table. specs/EdgesFurther has the other rows and the table; proofs/Edges shows that each row holds.
 -- Assumes nothing.
 use Rattle.std.specs.Prelude.{ℕ, length, replicate, true, List, [], ◌∷◌, ◌≡◌}
-use Rattle.transactions.specs.Content.{Entry, Operation, Transaction, highest_rank}
+use Rattle.transactions.specs.Content.{Entry, Operation, Transaction}
 use Rattle.ordering.specs.Order.{Ref, bar_of, key_of, ref_of}
 use Rattle.plain.specs.Answer.{Answer, accepted}
 use Rattle.plain.specs.Logs.{Logs, Values, history_of}
@@ -41,10 +41,10 @@ abbrev pub op : ℕ → ℕ → ℕ → Operation
 op c r n = record { code = c; register = r; value = n }
 
 abbrev pub pay : List Entry → List Entry → Transaction
-pay ds cs = record { kind = 0; debits = ds; credits = cs; operations = []; first = 1; last = highest_rank }
+pay ds cs = record { kind = 0; debits = ds; credits = cs; operations = [] }
 
 abbrev pub contract : List Entry → List Entry → List Operation → Transaction
-contract ds cs ops = record { kind = 1; debits = ds; credits = cs; operations = ops; first = 1; last = highest_rank }
+contract ds cs ops = record { kind = 1; debits = ds; credits = cs; operations = ops }
 
 -- instances, registers, balances, transactions
 abbrev pub sheet_of : ℕ → ℕ → List ℕ → List Transaction → Sheet

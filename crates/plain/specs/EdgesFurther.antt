@@ -5,7 +5,6 @@ use Rattle.ordering.specs.Order.{Ref, key_of, ref_of}
 use Rattle.plain.specs.Answer.{accepted, refused}
 use Rattle.plain.specs.Edges.{Row, blk, contract, cut_report, ent, marked, op, order, pay, reads, row, runs_ops, sheet_of, whole_report, whole_sheet, works, yes}
 use Rattle.plain.specs.EdgesShare.{rounded}
-use Rattle.plain.specs.EdgesTerms.{terms}
 use Rattle.plain.specs.Logs.{Values}
 use Rattle.plain.specs.Offers.{Offer, frame, offer_needs}
 use Rattle.sums.specs.Seq.{tabulate}
@@ -233,4 +232,4 @@ further =
     ∷ missing ∷ given_back ∷ one_part ∷ self_paid ∷ runs_last ∷ log_order ∷ second_block ∷ tests ∷ sees ∷ undone ∷ resent ∷ as_frames ∷ []
 
 abbrev pub table : List Row
-table = marked ++ (further ++ (rounded ++ terms))
+table = marked ++ (further ++ rounded)

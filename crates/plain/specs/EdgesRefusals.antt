@@ -67,7 +67,7 @@ wrongs = 7 ∷ 1 ∷ 0 ∷ []
 
 abbrev pub turned : List Case
 turned =
-    values [] (spoilt 3 (blk3 3 9 0 9 9 9 (wrongs ++ replicate 30 7))) gives refused 16 348
+    values [] (spoilt 3 (blk3 3 9 0 9 9 9 (wrongs ++ replicate 30 7))) gives refused 16 324
     ∷ values room (spoilt 3 (blk3 3 9 0 9 9 9 (wrongs ++ replicate 30 7))) gives refused 5 0
     ∷ values room (spoilt 3 (blk3 3 9 0 9 9 9 wrongs)) gives refused 5 0
     ∷ off 3 9 0 9 9 9 wrongs gives refused 8 0
@@ -85,7 +85,7 @@ turned =
 -- 16: one place too few is too short, in each buffer; of several the first in the call counts; more than enough is fine
 abbrev pub lends : List Case
 lends =
-    values (set room 0 347) (blk3 1 2 4 2 1 0 []) gives refused 16 348
+    values (set room 0 323) (blk3 1 2 4 2 1 0 []) gives refused 16 324
     ∷ values (set room 1 383) (blk3 1 2 4 2 1 0 []) gives refused 16 384
     ∷ values (set room 2 6143) (blk3 1 2 4 2 1 0 []) gives refused 16 6144
     ∷ values (set room 3 12287) (blk3 1 2 4 2 1 0 []) gives refused 16 12288
@@ -174,7 +174,7 @@ at5 bytes = frame room (255 ∷ 255 ∷ 255 ∷ 255 ∷ 255 ∷ bytes) 5
 abbrev pub frames_turned : List Case
 frames_turned =
     frame [] (255 ∷ 255 ∷ 255 ∷ 255 ∷ 255 ∷ []) 5 gives no_offer
-    ∷ frame [] (255 ∷ 255 ∷ 255 ∷ 255 ∷ 255 ∷ 1 ∷ []) 5 gives refused 16 348
+    ∷ frame [] (255 ∷ 255 ∷ 255 ∷ 255 ∷ 255 ∷ 1 ∷ []) 5 gives refused 16 324
     ∷ at5 (1 ∷ 0 ∷ 0 ∷ []) gives refused 1 5
     ∷ at5 (1 ∷ 0 ∷ 0 ∷ 0 ∷ []) gives refused 2 5
     ∷ at5 (four 3 ++ two 9) gives refused 1 5
@@ -197,7 +197,6 @@ frames_near =
     ∷ at5 (frame_with 1 (twos (3 ∷ 3 ∷ 0 ∷ 3 ∷ []))) gives refused 3 5
     ∷ at5 (frame_with 2 (replicate 24 0)) gives refused 3 5
     ∷ at5 (frame_with 3 (body 1 2 4 0 (2 ∷ 1 ∷ 0 ∷ []) [])) gives refused 3 5
-    ∷ at5 (frame_with 6 (body 1 2 4 0 (2 ∷ 1 ∷ 0 ∷ []) [])) gives refused 3 5
     ∷ at5 (frame_with 260 (body 1 2 4 0 (2 ∷ 1 ∷ 0 ∷ []) [])) gives refused 3 5
     ∷ at5 (frame_with 4 []) gives refused 4 5
     ∷ at5 (frame_with 4 (replicate 9 0)) gives refused 4 5
@@ -218,11 +217,11 @@ frames_wide =
 -- A slip where no byte is left is no offer, here too
 abbrev pub early_turned : List Case
 early_turned =
-    values [] (spoilt 3 (blk3 3 9 0 9 9 9 (replicate 33 7))) gives refused 16 348
+    values [] (spoilt 3 (blk3 3 9 0 9 9 9 (replicate 33 7))) gives refused 16 324
     ∷ values room (spoilt 3 (blk3 3 9 0 9 9 9 (replicate 33 7))) gives refused 3 0
     ∷ off 1 2 4 2 1 0 (1 ∷ []) gives refused 3 0
     ∷ frame [] (255 ∷ 255 ∷ 255 ∷ 255 ∷ 255 ∷ []) 5 gives no_offer
-    ∷ frame [] (255 ∷ 255 ∷ 255 ∷ 255 ∷ 255 ∷ 1 ∷ []) 5 gives refused 16 348
+    ∷ frame [] (255 ∷ 255 ∷ 255 ∷ 255 ∷ 255 ∷ 1 ∷ []) 5 gives refused 16 324
     ∷ at5 [] gives no_offer
     ∷ at5 (1 ∷ 0 ∷ 0 ∷ []) gives refused 1 5
     ∷ at5 (1 ∷ 0 ∷ 0 ∷ 0 ∷ []) gives refused 2 5
@@ -270,13 +269,13 @@ call q l a = record { complete = true; query = q; lent = l; answer = a }
 
 -- the working buffers of all calls but the log's
 abbrev pub work : List ℕ
-work = 240 ∷ 256 ∷ 8192 ∷ 8192 ∷ 4 ∷ 2 ∷ 256 ∷ []
+work = 224 ∷ 256 ∷ 8192 ∷ 8192 ∷ 4 ∷ 2 ∷ 256 ∷ []
 
 -- nothing to fill for the share; 3 accounts, 1 register, 2 transactions, 2 blocks in the log
 abbrev pub calls : List Call
 calls =
     early accounts ∷ early registers ∷ early settlements ∷ early share ∷ early log
-    ∷ call accounts [] (refused 16 240)
+    ∷ call accounts [] (refused 16 224)
     ∷ call accounts (work ++ 2 ∷ 2 ∷ []) (refused 16 3)
     ∷ call accounts (work ++ 3 ∷ 2 ∷ []) (refused 16 3)
     ∷ call accounts (work ++ 3 ∷ 3 ∷ []) accepted

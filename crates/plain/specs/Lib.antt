@@ -7,7 +7,6 @@ pub mod Early
 pub mod Report
 pub mod Edges
 pub mod EdgesShare
-pub mod EdgesTerms
 pub mod EdgesFurther
 pub mod EdgesRefusals
 pub mod EdgesFull

@@ -8,7 +8,7 @@ use Rattle.frames.specs.declared.frame.Framed.{Framed}
 use Rattle.refusals.specs.declared.Refusal.{Refusal}
 use Rattle.refusals.specs.declared.Refusal.TheVariants.{KindNotDue}
 use Rattle.refusals.specs.declared.Checked.{Checked}
-use Rattle.sheets.specs.Sheet.{Sheet, slot_from, tx_count}
+use Rattle.sheets.specs.Sheet.{tx_count, Sheet}
 use Rattle.frames.specs.Block.{check_block, cites_of, cut_of}
 use Rattle.fields.specs.Number.{le}
 
@@ -24,7 +24,7 @@ lent_of (frame lent bytes at) = lent
 -- least lengths of the buffers that an offer lends, in the order of the call: sheet, ranks, cuts, cites, good, counts, table, order (docs/BUFFERS.md)
 unfoldable pub offer_needs : Sheet → List ℕ
 offer_needs S =
-    slot_from S.a (tx_count S) ∷ (128 * S.m) ∷ (2048 * S.m) ∷ (4096 * S.m) ∷ (4096 * S.m) ∷ (2 * tx_count S) ∷ tx_count S ∷ (128 * S.m) ∷ []
+    (8 * S.a + 100 * tx_count S) ∷ (128 * S.m) ∷ (2048 * S.m) ∷ (4096 * S.m) ∷ (4096 * S.m) ∷ (2 * tx_count S) ∷ tx_count S ∷ (128 * S.m) ∷ []
 
 -- ---- a frame, read on a complete sheet
 

@@ -12,7 +12,7 @@ use Rattle.plain.specs.Logs.{Logs, history_of}
 use Rattle.plain.specs.Plain.{lent_answer}
 use Rattle.sums.specs.Seq.{fill, tabulate}
 use Rattle.sums.specs.Test.{pick}
-use Rattle.sheets.specs.Sheet.{Sheet, slot_from, tx_count}
+use Rattle.sheets.specs.Sheet.{tx_count, Sheet}
 use Rattle.settlement.specs.Books.{Status}
 use Rattle.settlement.specs.Settlement.{contracts}
 use Rattle.settlement.specs.Tables.{code_of}
@@ -54,7 +54,7 @@ pub data Query : Type 0 where
 
 -- least lengths of the buffers that a call lends before those that it fills: sheet, ranks, cites, good, counts, table, order
 unfoldable pub settle_needs : Sheet → List ℕ
-settle_needs S = slot_from S.a (tx_count S) ∷ (128 * S.m) ∷ (4096 * S.m) ∷ (4096 * S.m) ∷ (2 * tx_count S) ∷ tx_count S ∷ (128 * S.m) ∷ []
+settle_needs S = (8 * S.a + 100 * tx_count S) ∷ (128 * S.m) ∷ (4096 * S.m) ∷ (4096 * S.m) ∷ (2 * tx_count S) ∷ tx_count S ∷ (128 * S.m) ∷ []
 
 -- the log needs no more than the ranks
 unfoldable pub work_needs : Sheet → Query → List ℕ

@@ -86,7 +86,7 @@ next_passed a b n k e q =
 module _ (l : Ledger) (K : Kept) (W : Buffers) where
   -- the formulas are those of the sheet
   needs_are : settle_needs (sheet_of l K)
-      ≡ slot_from l.loading.a l.loading.t ∷ (128 * l.loading.m) ∷ (4096 * l.loading.m) ∷ (4096 * l.loading.m) ∷ (2 * l.loading.t) ∷ l.loading.t ∷ (128 * l.loading.m) ∷ []
+      ≡ (8 * l.loading.a + 100 * l.loading.t) ∷ (128 * l.loading.m) ∷ (4096 * l.loading.m) ∷ (4096 * l.loading.m) ∷ (2 * l.loading.t) ∷ l.loading.t ∷ (128 * l.loading.m) ∷ []
   unfolding settle_needs
   needs_are = rw (sheet-m K.sheet (sizes_of l), sheet-count K.sheet (sizes_of l), sheet-a K.sheet (sizes_of l)) refl
 

@@ -29,8 +29,7 @@ use Rattle.replay.specs.Reading.{answer_line, blocks_text, end_of, ends_output, 
 use Rattle.settlement.specs.Books.{booked, counted, run_all, settled, step}
 use Rattle.settlement.specs.Settlement.{cited, contracts, failed, is_cite, is_fail, payment, status}
 use Rattle.settlement.specs.View.{block_events, event_at, log_events, view_log, view_sum}
-use Rattle.sheets.specs.Operations.{operate, operate_to, operated, operated_at}
-use Rattle.transactions.specs.Content.{in_term}
+use Rattle.sheets.specs.Operations.{operate, operate_to, operated}
 use Rattle.sheets.specs.Parts.{amount_on, has_part, home, is_contract, parts}
 use Rattle.sheets.specs.Sheet.{sheet_from}
 use Rattle.sums.specs.Least.{least_from}
@@ -74,7 +73,7 @@ unfolding frame_at le pick
 ends = (refl, refl)
 
 reported : report_of whole_sheet logs_last ≡ whole_report
-unfolding ◌then◌ all_to amount_on answer any_to appended block_answer block_events booked check_block cite_answer cited cited_before cites_of contracts counted covered_by credited cut_of debit_at depth entry_at entry_off event_at failed first_to frame_at free free_by front_answer full_view given global_log has_part held held_by history_of home idle_answer is_cite is_contract is_fail judge serves judged_to last_entry last_rank le least_from lent_answer log_events log_to next offer_needs operate operate_to operated operated_at in_term outcome parse part_good parts payment pick refuse report_by report_of reserved rows_all rows_of run_all seek settled share_of thousandths nearest status step sum_to tabulate unused_set values_answer view_log view_of view_sum
+unfolding ◌then◌ all_to amount_on answer any_to appended block_answer block_events booked check_block cite_answer cited cited_before cites_of contracts counted covered_by credited cut_of debit_at depth entry_at entry_off event_at failed first_to frame_at free free_by front_answer full_view given global_log has_part held held_by history_of home idle_answer is_cite is_contract is_fail judge judged_to last_entry last_rank le least_from lent_answer log_events log_to next offer_needs operate operate_to operated outcome parse part_good parts payment pick refuse report_by report_of reserved rows_all rows_of run_all seek settled share_of thousandths nearest status step sum_to tabulate unused_set values_answer view_log view_of view_sum
 reported = refl
 
 -- a block that is accepted: its line, then the rest
@@ -95,7 +94,7 @@ blocks =
     ∙ rw (said.1, ends.1) (ap (λ (l : List ℕ). ok_line 0 1 ++ l) (at_end 144 logs_last ∙ ap tail_text reported))))
 
 lines : run_line 2 3 1 2 ++ (ok_line 1 1 ++ (ok_line 0 1 ++ tail_text whole_report)) ≡ bytes_of worked_text
-unfolding account_line account_lines amount_on any_to block_events booked bytes_of cited contracts counted credited debit_at decimal decimal_by entry_at event_at failed field fields free free_by given global_log has_part held held_by home is_cite is_contract is_fail least_from line lines_from log_events log_line log_lines log_to ok_line operate operate_to operated operated_at in_term pair_lines parts payment pick register_line register_lines reserved run_all run_line seek settled share_line status step sum_to tabulate tail_text tx_line tx_lines view_log view_sum zip zip_with
+unfolding account_line account_lines amount_on any_to block_events booked bytes_of cited contracts counted credited debit_at decimal decimal_by entry_at event_at failed field fields free free_by given global_log has_part held held_by home is_cite is_contract is_fail least_from line lines_from log_events log_line log_lines log_to ok_line operate operate_to operated pair_lines parts payment pick register_line register_lines reserved run_all run_line seek settled share_line status step sum_to tabulate tail_text tx_line tx_lines view_log view_sum zip zip_with
 lines = refl
 
 pub worked-text : WorkedText

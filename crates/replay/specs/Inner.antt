@@ -122,7 +122,7 @@ pub record PutsBlocks (run : List ℕ) (at : ℕ) (l : Ledger) (K : Kept) (W : B
 
 -- buffers that suffice for every sheet
 pub record Ample (K : Kept) (W : Buffers) : Type 0 where
-  pub sheet : 118784 ≤ length K.sheet
+  pub sheet : 110592 ≤ length K.sheet
   pub ranks : 2048 ≤ length K.ranks
   pub cuts : 32768 ≤ length K.cuts
   pub cites : 65536 ≤ length K.cites

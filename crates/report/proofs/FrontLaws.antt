@@ -19,11 +19,11 @@ module _ (n : ℕ) (s : List ℕ) where
   rest_stays p h e = drop_at p (drop n s) n (e ∙ length-take-le n s h)
 
 pub ample_fronts : (K : Kept) (W : Buffers) → Ample K W → Ample
-    (kept (take 118784 K.sheet) (take 2048 K.ranks) (take 32768 K.cuts) (take 65536 K.cites) (take 65536 K.good))
+    (kept (take 110592 K.sheet) (take 2048 K.ranks) (take 32768 K.cuts) (take 65536 K.cites) (take 65536 K.good))
     (buffers (take 2048 W.counts) (take 1024 W.table) (take 2048 W.order))
 ample_fronts K W h =
     record {
-      sheet = front_long 118784 K.sheet h.sheet;
+      sheet = front_long 110592 K.sheet h.sheet;
       ranks = front_long 2048 K.ranks h.ranks;
       cuts = front_long 32768 K.cuts h.cuts;
       cites = front_long 65536 K.cites h.cites;

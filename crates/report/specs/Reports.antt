@@ -10,7 +10,7 @@ use Rattle.state.specs.State.{Kept, lengths_of}
 
 -- least lengths, in the order of the call: those of the largest sheet (docs/BUFFERS.md), and the text's
 abbrev pub report_needs : List ℕ
-report_needs = 118784 ∷ 2048 ∷ 32768 ∷ 65536 ∷ 65536 ∷ 2048 ∷ 1024 ∷ 2048 ∷ 262144 ∷ []
+report_needs = 110592 ∷ 2048 ∷ 32768 ∷ 65536 ∷ 65536 ∷ 2048 ∷ 1024 ∷ 2048 ∷ 262144 ∷ []
 
 -- they keep to "at most 4,194,304 bytes" as the buffers of every other call do
 abbrev pub ReportFits : Type 0
@@ -18,7 +18,7 @@ ReportFits = bytes_of (offer_widths ++ (1 ∷ [])) report_needs ≤ 4194304
 
 -- Each buffer is as it was from its least length on. Up to there, where it holds the ledger while the run is read, it is left free
 pub record Spared (K : Kept) (W : Buffers) (K' : Kept) (W' : Buffers) : Type 0 where
-  pub sheet : drop 118784 K'.sheet ≡ drop 118784 K.sheet
+  pub sheet : drop 110592 K'.sheet ≡ drop 110592 K.sheet
   pub ranks : drop 2048 K'.ranks ≡ drop 2048 K.ranks
   pub cuts : drop 32768 K'.cuts ≡ drop 32768 K.cuts
   pub cites : drop 65536 K'.cites ≡ drop 65536 K.cites

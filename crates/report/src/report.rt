@@ -23,7 +23,7 @@ fn check_room(lent: Lengths, out: usize) -> Checked
     ensures { reply_to result ≡ lent_answer report_needs (needs_list lent ++ (out ∷ [])) }
 {
     let most = Lengths {
-        sheet: 118784,
+        sheet: 110592,
         ranks: 2048,
         cuts: 32768,
         cites: 65536,

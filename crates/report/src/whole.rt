@@ -125,7 +125,7 @@ pub fn put_within(
 {
     put_reading(
         run,
-        &mut sheet[..118784],
+        &mut sheet[..110592],
         &mut ranks[..2048],
         &mut cuts[..32768],
         &mut cites[..65536],

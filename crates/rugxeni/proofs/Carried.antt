@@ -11,7 +11,7 @@ use native.Mathlib.Omega.{arith}
 use Rattle.demand.proofs.Lengths.{offered_lengths}
 use Rattle.demand.proofs.Replies.{refused_same}
 use Rattle.demand.specs.Chain.{SameFront}
-use Rattle.frames.proofs.StepLaws.{took-judged}
+use Rattle.frames.proofs.StepLaws.{took_judged}
 use Rattle.frames.specs.Step.{header_loaded, loading_after}
 use Rattle.frames.specs.declared.step.Loading.{Loading}
 use Rattle.frames.specs.declared.step.Step.{Step}
@@ -121,7 +121,7 @@ record Left (l : Ledger) (r : Loaded) : Type 0 where
 by_step : (l : Ledger) (run : List ℕ) (at : ℕ) (before after : List ℕ) (t : Step) → LoadStep run at l.loading before after t → Left l (after_step l t)
 by_step l run at before after (Step.Took next end) L = record {
   long = refl;
-  low = λ h. rw (took-judged l.loading run at next end (took_it run at l.loading before after next end L.bytes).step).1 (after_stage l.loading _ _ h);
+  low = λ h. rw (took_judged l.loading run at next end (took_it run at l.loading before after next end L.bytes).step).1 (after_stage l.loading _ _ h);
   same = λ e. absurd (let z : ◌≡◌ {A = ℕ} 0 1 = cc in omega arith);
 }
 by_step l run at before after (Step.Refused x) L = record { long = refl; low = λ h. h; same = λ e. refl }

@@ -11,15 +11,15 @@ use mathlib.Core.Path.{◌∙◌, ◌≡◌, ap, ap₂, refl, subst, sym}
 use native.Mathlib.Numerals.{add-one}
 use native.Mathlib.Omega.{arith}
 use Rattle.ordering.specs.Order.{Ref}
-use Rattle.ordering.specs.Table.{rank_in, ref_in}
+use Rattle.ordering.specs.Table.{ref_in}
 use Rattle.settlement.proofs.CountCells.{counts_ext, counts-one, event_tx}
 use Rattle.settlement.proofs.ViewOnly.{log_events-append}
-use Rattle.settlement.specs.Cells.{cell_in, flag_in, rows_in}
+use Rattle.settlement.specs.Cells.{rows_in}
 use Rattle.settlement.specs.Books.{Book, Status, booked, counted, paid, returned, run_all, settled, step}
 use Rattle.settlement.specs.Inner.{Counts, Holds, count_one, event_of, most, settled_if}
 use Rattle.settlement.specs.Tables.{code_of}
 use Rattle.settlement.specs.View.{Event, Rows, block_events, event_at, log_events}
-use Rattle.sheets.specs.Operations.{Leaves, Done, operated_at}
+use Rattle.sheets.specs.Operations.{Leaves, Done, operated}
 use Rattle.sheets.specs.Parts.{is_contract, parts}
 use Rattle.sheets.specs.Sheet.{Sheet, sheet_in}
 use Rattle.sums.proofs.SeqLaws.{map-append}
@@ -31,7 +31,7 @@ use Rattle.sheets.specs.declared.sheet.Sizes.{Sizes}
 
 -- ---- one contract whose citation was counted
 
-module _ (z : Sizes) (c₀ t₀ : List ℕ) (s : Book) (counts table cells : List ℕ) (x w : ℕ) (h : x < z.t) (k : Holds z c₀ t₀ s counts table cells) where
+module _ (z : Sizes) (c₀ t₀ : List ℕ) (s : Book) (counts table cells : List ℕ) (x : ℕ) (h : x < z.t) (k : Holds z c₀ t₀ s counts table cells) where
   -- a status and registers that are marked
   marked : (v : Status) (r' r : List ℕ) → z.t ≤ length table → take z.g r' ≡ r
       → Holds z c₀ t₀ (record { registers = r; seen = s.seen; spoiled = s.spoiled; status = put s.status x v }) counts (set table x (code_of v)) r'
@@ -50,19 +50,19 @@ module _ (z : Sizes) (c₀ t₀ : List ℕ) (s : Book) (counts table cells : Lis
       go y l false e = get_or-set_other table x y (code_of v) 0 (eqb-false y x e) ∙ k.status y l ∙ ap code_of (sym (pick-false _ _ _ e))
 
   module _ (S : Sheet) (n p : ℕ) (ec : n ≡ get_or counts (2 * x) 0) (ep : p ≡ parts S x) (small : p < most) where
-    pub wait-for : (n ≡ p → ⊥) → Holds z c₀ t₀ (settled_if S s x w) counts table cells
+    pub wait-for : (n ≡ p → ⊥) → Holds z c₀ t₀ (settled_if S s x) counts table cells
     unfolding settled_if
     wait-for ne =
         subst (λ (u : Book). Holds z c₀ t₀ u counts table cells)
         (sym (pick-false _ _ _ (ne_eqb (s.seen x) (parts S x) (λ (e : s.seen x ≡ parts S x). ne (omega (arith, k.counted.cited x h)))))) k
 
     module _ (full : n ≡ p) where
-      all_seen : settled_if S s x w ≡ settled S s x w
+      all_seen : settled_if S s x ≡ settled S s x
       unfolding settled_if
       all_seen = pick_true _ _ _ (eq-eqb (s.seen x) (parts S x) (omega (arith, k.counted.cited x h)))
 
       -- not both: returned
-      pub not-both : both (eqb (s.spoiled x) 0) (operated_at S x w s.registers).passes ≡ false → z.t ≤ length table → Holds z c₀ t₀ (settled_if S s x w) counts (set table x 2) cells
+      pub not-both : both (eqb (s.spoiled x) 0) (operated S x s.registers).passes ≡ false → z.t ≤ length table → Holds z c₀ t₀ (settled_if S s x) counts (set table x 2) cells
       unfolding settled
       not-both e room =
           subst (λ (u : Book). Holds z c₀ t₀ u counts (set table x 2) cells)
@@ -70,39 +70,39 @@ module _ (z : Sizes) (c₀ t₀ : List ℕ) (s : Book) (counts table cells : Lis
           (marked returned cells s.registers room k.registers)
 
       module _ (f : ℕ) (ef : f ≡ get_or counts (2 * x + 1) 0) where
-        pub spoilt : (f ≡ 0 → ⊥) → z.t ≤ length table → Holds z c₀ t₀ (settled_if S s x w) counts (set table x 2) cells
+        pub spoilt : (f ≡ 0 → ⊥) → z.t ≤ length table → Holds z c₀ t₀ (settled_if S s x) counts (set table x 2) cells
         spoilt ne room = not-both (passed _ (ne_eqb (s.spoiled x) 0 (λ (e : s.spoiled x ≡ 0). ne (omega (arith, k.counted.failed x h)))) refl) room
 
         clean : f ≡ 0 → eqb (s.spoiled x) 0 ≡ true
         clean e = eq-eqb (s.spoiled x) 0 (omega (arith, k.counted.failed x h))
 
-        pub failed-run : f ≡ 0 → (operated_at S x w s.registers).passes ≡ false → z.t ≤ length table → Holds z c₀ t₀ (settled_if S s x w) counts (set table x 2) cells
+        pub failed-run : f ≡ 0 → (operated S x s.registers).passes ≡ false → z.t ≤ length table → Holds z c₀ t₀ (settled_if S s x) counts (set table x 2) cells
         failed-run e q room = not-both (took _ (clean e) q) room
 
-        pub passed-run : f ≡ 0 → (operated_at S x w s.registers).passes ≡ true → (cells' : List ℕ) → take z.g cells' ≡ (operated_at S x w s.registers).registers → z.t ≤ length table
-            → Holds z c₀ t₀ (settled_if S s x w) counts (set table x 1) cells'
+        pub passed-run : f ≡ 0 → (operated S x s.registers).passes ≡ true → (cells' : List ℕ) → take z.g cells' ≡ (operated S x s.registers).registers → z.t ≤ length table
+            → Holds z c₀ t₀ (settled_if S s x) counts (set table x 1) cells'
         unfolding settled
         passed-run e q cells' a room =
             subst (λ (u : Book). Holds z c₀ t₀ u counts (set table x 1) cells')
             (sym (all_seen ∙ pick_true _ _ _ (took _ (clean e) q)))
-            (marked paid cells' (operated_at S x w s.registers).registers room a)
+            (marked paid cells' (operated S x s.registers).registers room a)
 
 -- what a run of x's operations says of the book
-module _ (b : List ℕ) (z : Sizes) (c₀ t₀ : List ℕ) (s : Book) (counts table cells : List ℕ) (x w : ℕ) (k : Holds z c₀ t₀ s counts table cells)
-    (r : Ran) (e : Leaves z.g r (operated_at (sheet_in b z) x w (take z.g cells))) where
-  same_run : operated_at (sheet_in b z) x w (take z.g cells) ≡ operated_at (sheet_in b z) x w s.registers
-  same_run = ap (operated_at (sheet_in b z) x w) k.registers
+module _ (b : List ℕ) (z : Sizes) (c₀ t₀ : List ℕ) (s : Book) (counts table cells : List ℕ) (x : ℕ) (k : Holds z c₀ t₀ s counts table cells)
+    (r : Ran) (e : Leaves z.g r (operated (sheet_in b z) x (take z.g cells))) where
+  same_run : operated (sheet_in b z) x (take z.g cells) ≡ operated (sheet_in b z) x s.registers
+  same_run = ap (operated (sheet_in b z) x) k.registers
 
-  pub run_passes : (u : Bool) → r.passes ≡ u → (operated_at (sheet_in b z) x w s.registers).passes ≡ u
+  pub run_passes : (u : Bool) → r.passes ≡ u → (operated (sheet_in b z) x s.registers).passes ≡ u
   run_passes u h = sym (ap (λ (d : Done). d.passes) same_run) ∙ sym e.passes ∙ h
 
-  pub run_after : take z.g r.registers ≡ (operated_at (sheet_in b z) x w s.registers).registers
+  pub run_after : take z.g r.registers ≡ (operated (sheet_in b z) x s.registers).registers
   run_after = e.registers ∙ ap (λ (d : Done). d.registers) same_run
 
 -- ---- one citation
 
-module _ (z : Sizes) (c₀ t₀ : List ℕ) (s : Book) (counts table cells : List ℕ) (k : Holds z c₀ t₀ s counts table cells) (x : ℕ) (g : Bool) (w : ℕ) (h : x < z.t) where
-  pub counted_holds : (counts' : List ℕ) → counts' ≡ count_one counts x (flip g) → 2 * z.t ≤ length counts → Holds z c₀ t₀ (counted s (event_of x g w)) counts' table cells
+module _ (z : Sizes) (c₀ t₀ : List ℕ) (s : Book) (counts table cells : List ℕ) (k : Holds z c₀ t₀ s counts table cells) (x : ℕ) (g : Bool) (h : x < z.t) where
+  pub counted_holds : (counts' : List ℕ) → counts' ≡ count_one counts x (flip g) → 2 * z.t ≤ length counts → Holds z c₀ t₀ (counted s (event_of x g)) counts' table cells
   unfolding counted
   counted_holds counts' e room = record {
     counted =
@@ -117,29 +117,28 @@ module _ (z : Sizes) (c₀ t₀ : List ℕ) (s : Book) (counts table cells : Lis
   }
 
 -- the step of the fold at a place, by what stands there
-module _ (b : List ℕ) (z : Sizes) (ranks cites good : List ℕ) (j p : ℕ) (s : Book) (w : ℕ) (ew : w ≡ rank_in ranks j (p / 32)) (x : ℕ) (ex : x ≡ get_or cites (j * 4096 + p) 65535) (u : Bool) (eu : u ≡ is_contract (sheet_in b z) x) where
+module _ (b : List ℕ) (z : Sizes) (cites good : List ℕ) (j p : ℕ) (s : Book) (x : ℕ) (ex : x ≡ get_or cites (j * 4096 + p) 65535) (u : Bool) (eu : u ≡ is_contract (sheet_in b z) x) where
   abbrev here : Event
-  here = event_at (rows_in ranks cites good) j p
+  here = event_at (rows_in [] cites good) j p
 
   is_here : is_contract (sheet_in b z) here.tx ≡ u
-  is_here = ap (is_contract (sheet_in b z)) (event_tx ranks cites good j p x ex) ∙ sym eu
+  is_here = ap (is_contract (sheet_in b z)) (event_tx [] cites good j p x ex) ∙ sym eu
 
   step-none : u ≡ false → step (sheet_in b z) s here ≡ s
   unfolding step
   step-none f = pick-false _ _ _ (is_here ∙ f)
 
-  step-some : (g : Bool) → g ≡ eqb (get_or good (j * 4096 + p) 0) 1 → u ≡ true → settled_if (sheet_in b z) (counted s (event_of x g w)) x w ≡ step (sheet_in b z) s here
+  step-some : (g : Bool) → g ≡ eqb (get_or good (j * 4096 + p) 0) 1 → u ≡ true → settled_if (sheet_in b z) (counted s (event_of x g)) x ≡ step (sheet_in b z) s here
   unfolding step booked settled_if event_at rows_in
   step-some g eg t =
-      ap₂ (λ (n : ℕ) (f : Bool). settled_if (sheet_in b z) (counted s (event_of n f w)) n w) ex eg
-      ∙ ap (λ (y : ℕ). settled_if (sheet_in b z) (counted s (event_of (cell_in cites j p) (flag_in good j p) y)) (cell_in cites j p) y) ew ∙ sym (pick_true _ _ _ (is_here ∙ t))
+      ap₂ (λ (n : ℕ) (f : Bool). settled_if (sheet_in b z) (counted s (event_of n f)) n) ex eg ∙ sym (pick_true _ _ _ (is_here ∙ t))
 
   module _ (c₀ t₀ counts table cells : List ℕ) where
     pub skip-holds : u ≡ false → Holds z c₀ t₀ s counts table cells → Holds z c₀ t₀ (step (sheet_in b z) s here) counts table cells
     skip-holds f k = subst (λ (w : Book). Holds z c₀ t₀ w counts table cells) (sym (step-none f)) k
 
     pub step-holds : (g : Bool) → g ≡ eqb (get_or good (j * 4096 + p) 0) 1 → u ≡ true
-        → Holds z c₀ t₀ (settled_if (sheet_in b z) (counted s (event_of x g w)) x w) counts table cells → Holds z c₀ t₀ (step (sheet_in b z) s here) counts table cells
+        → Holds z c₀ t₀ (settled_if (sheet_in b z) (counted s (event_of x g)) x) counts table cells → Holds z c₀ t₀ (step (sheet_in b z) s here) counts table cells
     step-holds g eg t k = subst (λ (w : Book). Holds z c₀ t₀ w counts table cells) (step-some g eg t) k
 
 -- ---- a block and a log
@@ -190,3 +189,9 @@ module _ (z : Sizes) (c₀ t₀ : List ℕ) (S : Sheet) (s : Book) (c t r : List
 
   pub log_end : (Q : Rows) (l : List ℕ) (i n : ℕ) → i ≤ n → n ≤ i → Holds z c₀ t₀ (run_all S s (log_events Q (map ref_in (take i l)))) c t r → Holds z c₀ t₀ (run_all S s (log_events Q (map ref_in (take n l)))) c t r
   log_end Q l i n h u k = subst (λ (m : ℕ). Holds z c₀ t₀ (run_all S s (log_events Q (map ref_in (take m l)))) c t r) {x = i} {y = n} (omega arith) k
+
+-- the citations of a log do not hang on ranks
+pub events_any : (ranks ranks' cites good : List ℕ) (l : List Ref) → log_events (rows_in ranks cites good) l ≡ log_events (rows_in ranks' cites good) l
+unfolding log_events block_events event_at rows_in
+events_any ranks ranks' cites good [] = refl
+events_any ranks ranks' cites good (b ∷ l) = ap (λ (e : List Event). block_events (rows_in ranks cites good) b ++ e) (events_any ranks ranks' cites good l)

@@ -12,7 +12,7 @@ use native.Mathlib.Omega.{arith}
 use Rattle.settlement.specs.Books.{Book, Status, booked, counted, empty_book, paid, pending, returned, run_all, settled, step}
 use Rattle.settlement.specs.Settlement.{is_cite, is_fail}
 use Rattle.settlement.specs.View.{Event}
-use Rattle.sheets.specs.Operations.{operated_at}
+use Rattle.sheets.specs.Operations.{operated}
 use Rattle.sheets.specs.Parts.{is_contract, parts}
 use Rattle.sheets.specs.Sheet.{Sheet}
 use Rattle.sums.proofs.TestLaws.{both_true, by-pick, given_false, given_true, put_add, put_same}
@@ -59,9 +59,9 @@ module _ (S : Sheet) (s : Book) (x : ℕ) (h : Sound S s) (o : s.status x ≡ pe
     up = λ y. omega arith;
   }
 
-  settled-kept : (w : ℕ) → Onward S s (settled S s x w)
+  settled-kept : Onward S s (settled S s x)
   unfolding settled
-  settled-kept w = by-pick (Onward S s) _ (λ q. marked paid _) (λ q. marked returned _)
+  settled-kept = by-pick (Onward S s) _ (λ q. marked paid _) (λ q. marked returned _)
 
 seen-counted : (s : Book) (e : Event) → (counted s e).seen e.tx ≡ s.seen e.tx + 1
 unfolding counted
@@ -79,7 +79,7 @@ booked-kept S s e h =
     let full : (counted s e).seen e.tx ≡ parts S e.tx = eqb-true _ _ q in
     let was : s.status e.tx ≡ pending = open_of _ (λ n. omega (arith, h e.tx n, seen-counted s e)) in
     kept_trans S s (counted s e) _ (counted-kept S s e h)
-    (settled-kept S (counted s e) e.tx (counted-kept S s e h).sound (status-counted s e e.tx ∙ was) (omega arith) e.rank))
+    (settled-kept S (counted s e) e.tx (counted-kept S s e h).sound (status-counted s e e.tx ∙ was) (omega arith)))
     (λ q. counted-kept S s e h)
 
 pub step_kept : (S : Sheet) (s : Book) (e : Event) → Sound S s → Onward S s (step S s e)
@@ -118,13 +118,13 @@ stranger : (S : Sheet) (e : Event) (y n : ℕ) → is_contract S y ≡ true → 
 stranger S e y n c d = given_false _ _ (ne_eqb e.tx y (λ q. let z : ◌≡◌ {A = Bool} true false = sym c ∙ sym (ap (is_contract S) q) ∙ d in let z' : ◌≡◌ {A = ℕ} 0 1 = cc in omega arith))
 
 -- a count of the book that no settlement changes, and to which each event adds its weight
-module _ (S : Sheet) (count : Book → ℕ → ℕ) (weight : Event → ℕ) (kept : (s : Book) (x w : ℕ) → count (settled S s x w) ≡ count s)
+module _ (S : Sheet) (count : Book → ℕ → ℕ) (weight : Event → ℕ) (kept : (s : Book) (x : ℕ) → count (settled S s x) ≡ count s)
     (adds : (s : Book) (e : Event) (y : ℕ) → count (counted s e) y ≡ count s y + given (eqb e.tx y) (weight e)) where
   booked-count : (s : Book) (e : Event) (y : ℕ) → count (booked S s e) y ≡ count s y + given (eqb e.tx y) (weight e)
   unfolding booked
   booked-count s e y =
       by-pick (λ (t : Book). count t y ≡ count (counted s e) y) (eqb ((counted s e).seen e.tx) (parts S e.tx))
-      (λ q. ap (λ (f : ℕ → ℕ). f y) (kept (counted s e) e.tx e.rank)) (λ q. refl)
+      (λ q. ap (λ (f : ℕ → ℕ). f y) (kept (counted s e) e.tx)) (λ q. refl)
       ∙ adds s e y
 
   step_count : (s : Book) (e : Event) (y : ℕ) → is_contract S y ≡ true → count (step S s e) y ≡ count s y + given (eqb e.tx y) (weight e)
@@ -139,17 +139,17 @@ module _ (S : Sheet) (count : Book → ℕ → ℕ) (weight : Event → ℕ) (ke
   run_count s (e ∷ l) y c =
       run_count (step S s e) l y c ∙ ap (λ (z : ℕ). z + event_sum (λ e. given (eqb e.tx y) (weight e)) l) (step_count s e y c) ∙ add_assoc _ _ _
 
-settled-counts : (S : Sheet) (s : Book) (x w : ℕ) → ((settled S s x w).seen ≡ s.seen) × ((settled S s x w).spoiled ≡ s.spoiled)
+settled-counts : (S : Sheet) (s : Book) (x : ℕ) → ((settled S s x).seen ≡ s.seen) × ((settled S s x).spoiled ≡ s.spoiled)
 unfolding settled
-settled-counts S s x w = by-pick (λ (t : Book). (t.seen ≡ s.seen) × (t.spoiled ≡ s.spoiled)) _ (λ e. (refl, refl)) (λ e. (refl, refl))
+settled-counts S s x = by-pick (λ (t : Book). (t.seen ≡ s.seen) × (t.spoiled ≡ s.spoiled)) _ (λ e. (refl, refl)) (λ e. (refl, refl))
 
 pub run_seen : (S : Sheet) (s : Book) (l : List Event) (y : ℕ) → is_contract S y ≡ true → (run_all S s l).seen y ≡ s.seen y + event_sum (is_cite y) l
 unfolding is_cite counted
-run_seen S = run_count S (λ s. s.seen) (λ e. 1) (λ s x w. (settled-counts S s x w).0) (λ s e y. put_add s.seen e.tx y 1)
+run_seen S = run_count S (λ s. s.seen) (λ e. 1) (λ s x. (settled-counts S s x).0) (λ s e y. put_add s.seen e.tx y 1)
 
 pub run_spoiled : (S : Sheet) (s : Book) (l : List Event) (y : ℕ) → is_contract S y ≡ true → (run_all S s l).spoiled y ≡ s.spoiled y + event_sum (is_fail y) l
 unfolding is_fail counted
-run_spoiled S = run_count S (λ s. s.spoiled) (λ e. flip e.good) (λ s x w. (settled-counts S s x w).1) (λ s e y. put_add s.spoiled e.tx y (flip e.good))
+run_spoiled S = run_count S (λ s. s.spoiled) (λ e. flip e.good) (λ s x. (settled-counts S s x).1) (λ s e y. put_add s.spoiled e.tx y (flip e.good))
 
 -- ---- paid only with no part spoiled
 
@@ -175,10 +175,10 @@ counted_clean S s e h k y q l = go (eqb e.tx y) refl
         put_add s.spoiled e.tx y _ ∙ ap (λ (z : ℕ). s.spoiled y + z) (given_false (eqb e.tx y) _ w) ∙ add-zero _
         ∙ k y q (omega (arith, l, put_add s.seen e.tx y 1, given_false (eqb e.tx y) 1 w))
 
-settled_clean : (S : Sheet) (s : Book) (x w : ℕ) → Clean S s → Clean S (settled S s x w)
+settled_clean : (S : Sheet) (s : Book) (x : ℕ) → Clean S s → Clean S (settled S s x)
 unfolding settled
-settled_clean S s x w k =
-    by-pick (Clean S) (both (eqb (s.spoiled x) 0) (operated_at S x w s.registers).passes)
+settled_clean S s x k =
+    by-pick (Clean S) (both (eqb (s.spoiled x) 0) (operated S x s.registers).passes)
     (λ b y. by-pick (λ (t : Status). t ≡ paid → s.seen y ≤ parts S y → s.spoiled y ≡ 0) (eqb y x)
     (λ w q l. ap s.spoiled (eqb-true y x w) ∙ eqb-true (s.spoiled x) 0 (both_true _ b).0) (λ w q l. k y q l))
     (λ b y. by-pick (λ (t : Status). t ≡ paid → s.seen y ≤ parts S y → s.spoiled y ≡ 0) (eqb y x)
@@ -189,7 +189,7 @@ unfolding step booked
 step_clean S s e h k =
     by-pick (Clean S) (is_contract S e.tx)
     (λ q. by-pick (Clean S) (eqb ((counted s e).seen e.tx) (parts S e.tx))
-    (λ q'. settled_clean S (counted s e) e.tx e.rank (counted_clean S s e h k)) (λ q'. counted_clean S s e h k))
+    (λ q'. settled_clean S (counted s e) e.tx (counted_clean S s e h k)) (λ q'. counted_clean S s e h k))
     (λ q. k)
 
 run_clean : (S : Sheet) (s : Book) (l : List Event) → Sound S s → Clean S s → Clean S (run_all S s l)

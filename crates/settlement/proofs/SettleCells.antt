@@ -16,6 +16,7 @@ use Rattle.ordering.proofs.LogSum.{log-size}
 use Rattle.ordering.proofs.Prefix.{log_ids}
 use Rattle.ordering.specs.Order.{Ref, global_log}
 use Rattle.ordering.specs.Table.{Ordered, block_id, count_in, rank_in, ref_in}
+use Rattle.settlement.proofs.BookCells.{events_any}
 use Rattle.settlement.proofs.CountCells.{cleared, counts_rows, front_at, front_is, front-past}
 use Rattle.settlement.specs.Cells.{rows_in}
 use Rattle.settlement.specs.Books.{Status, empty_book, paid, pending, returned, run_all}
@@ -79,12 +80,12 @@ module _ (b : List ℕ) (z : Sizes) (ranks cites' good : List ℕ) (v full : Lis
   log_is = ap (global_log z.m (rank_in ranks)) ef
 
   pub contracts_hold : (c₀ t₀ : List ℕ) (l : List Ref) (counts table cells : List ℕ) → l ≡ global_log z.m (rank_in ranks) (count_in full)
-      → Holds z c₀ t₀ (run_all (sheet_in b z) (empty_book (sheet_in b z)) (log_events (rows_in ranks cites' good) l)) counts table cells
+      → Holds z c₀ t₀ (run_all (sheet_in b z) (empty_book (sheet_in b z)) (log_events (rows_in [] cites' good) l)) counts table cells
       → Holds z c₀ t₀ (contracts (sheet_in b z) (rows_in ranks cites' good) (count_in v)) counts table cells
   unfolding contracts
   contracts_hold c₀ t₀ l counts table cells el k =
       subst (λ (q : List Event). Holds z c₀ t₀ (run_all (sheet_in b z) (empty_book (sheet_in b z)) q) counts table cells)
-      (ap (log_events (rows_in ranks cites' good)) (el ∙ log_is)) k
+      (events_any [] ranks cites' good l ∙ ap (log_events (rows_in ranks cites' good)) (el ∙ log_is)) k
 
   pub log-logged : (d d' : List ℕ) → d' ≡ fill (map block_id (global_log z.m (rank_in ranks) (count_in full))) d → d' ≡ fill (map block_id (view_log (sheet_in b z) (rows_in ranks cites' good) (count_in v))) d
   log-logged d d' e = e ∙ ap (λ (l : List Ref). fill (map block_id l) d) log_is

@@ -26,16 +26,14 @@ use Rattle.sums.specs.Test.{pick}
 -- v and v' hold the same places, and R and R' have the same there
 pub record Same (m : ℕ) (v v' : View) (R R' : Rows) : Type 0 where
   pub places : (j : ℕ) → j < m → v j ≡ v' j
-  pub ranks : (j n : ℕ) → j < m → n * 32 < v j → R.rank j n ≡ R'.rank j n
+  pub ranks : (j n : ℕ) → j < m → n < v j / 32 → R.rank j n ≡ R'.rank j n
   pub cells : (j p : ℕ) → j < m → p < v j → R.cell j p ≡ R'.cell j p
   pub goods : (j p : ℕ) → j < m → p < v j → R.good j p ≡ R'.good j p
 
 module _ (S : Sheet) (some : 0 < S.m) (v v' : View) (R R' : Rows) (same : Same S.m v v' R R') where
   event_same : (j p : ℕ) → j < S.m → p < v j → event_at R j p ≡ event_at R' j p
   unfolding event_at
-  event_same j p l u =
-      let e : R.rank j (p / 32) ≡ R'.rank j (p / 32) = same.ranks j (p / 32) l (omega arith) in
-      λ i. record { tx = same.cells j p l u i; good = same.goods j p l u i; rank = e i }
+  event_same j p l u = λ i. record { tx = same.cells j p l u i; good = same.goods j p l u i }
 
   pub view_sum_same : (w : Event → ℕ) → view_sum S R v w ≡ view_sum S R' v' w
   unfolding view_sum
@@ -52,7 +50,7 @@ module _ (S : Sheet) (some : 0 < S.m) (v v' : View) (R R' : Rows) (same : Same S
 
   pub view_log_same : view_log S R v ≡ view_log S R' v'
   unfolding view_log
-  view_log_same = log_cong S.m R.rank R'.rank (λ j. v j / 32) (λ j. v' j / 32) (λ j l. ap (λ (n : ℕ). n / 32) (same.places j l)) (λ j n l u. same.ranks j n l (omega arith)) some
+  view_log_same = log_cong S.m R.rank R'.rank (λ j. v j / 32) (λ j. v' j / 32) (λ j l. ap (λ (n : ℕ). n / 32) (same.places j l)) same.ranks some
 
   -- registers, and what the contracts come to
   pub contracts_same : contracts S R v ≡ contracts S R' v'

@@ -3,7 +3,7 @@
 use Rattle.std.specs.Prelude.{◌+◌, ℕ, eqb, replicate}
 use mathlib.Core.List.{List, foldl}
 use Rattle.settlement.specs.View.{Event}
-use Rattle.sheets.specs.Operations.{operated_at}
+use Rattle.sheets.specs.Operations.{operated}
 use Rattle.sheets.specs.Parts.{is_contract, parts}
 use Rattle.sheets.specs.Sheet.{Sheet}
 use Rattle.sums.specs.Test.{both, flip, pick, put}
@@ -34,16 +34,15 @@ counted s e = record {
   status = s.status;
 }
 
--- contract x runs in a block of rank r: "paid if all parts are good and all operations pass, else returned with all registers unchanged";
--- "A contract is returned if the rank of the block in which it runs lies outside" its term (request 03)
-unfoldable pub settled : Sheet → Book → ℕ → ℕ → Book
-settled S s x r = pick (both (eqb (s.spoiled x) 0) (operated_at S x r s.registers).passes)
-    (record { registers = (operated_at S x r s.registers).registers; seen = s.seen; spoiled = s.spoiled; status = put s.status x paid })
+-- contract x runs: "paid if all parts are good and all operations pass, else returned with all registers unchanged"
+unfoldable pub settled : Sheet → Book → ℕ → Book
+settled S s x = pick (both (eqb (s.spoiled x) 0) (operated S x s.registers).passes)
+    (record { registers = (operated S x s.registers).registers; seen = s.seen; spoiled = s.spoiled; status = put s.status x paid })
     (record { registers = s.registers; seen = s.seen; spoiled = s.spoiled; status = put s.status x returned })
 
 -- "it then runs at the citation that comes last there"
 unfoldable pub booked : Sheet → Book → Event → Book
-booked S s e = pick (eqb ((counted s e).seen e.tx) (parts S e.tx)) (settled S (counted s e) e.tx e.rank) (counted s e)
+booked S s e = pick (eqb ((counted s e).seen e.tx) (parts S e.tx)) (settled S (counted s e) e.tx) (counted s e)
 
 -- a citation in log order; payments are passed over
 unfoldable pub step : Sheet → Book → Event → Book

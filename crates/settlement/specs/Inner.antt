@@ -54,9 +54,9 @@ pub record Counts (t : ℕ) (o : List ℕ) (T : Tally) (c : List ℕ) : Type 0 w
 abbrev pub no_tally : Tally
 no_tally = record { cited = λ y. 0; failed = λ y. 0 }
 
--- a citation of x in a block of rank w
-abbrev pub event_of : ℕ → Bool → ℕ → Event
-event_of x g w = record { tx = x; good = g; rank = w }
+-- a citation of x
+abbrev pub event_of : ℕ → Bool → Event
+event_of x g = record { tx = x; good = g }
 
 -- the tally T with one event more
 abbrev pub with_event : Event → Tally → Tally
@@ -84,8 +84,8 @@ pub record Holds (z : Sizes) (c₀ t₀ : List ℕ) (s : Book) (counts table cel
   pub registers : take z.g cells ≡ s.registers
 
 -- the step for a contract, once its citation is counted
-unfoldable pub settled_if : Sheet → Book → ℕ → ℕ → Book
-settled_if S s x w = pick (eqb (s.seen x) (parts S x)) (settled S s x w) s
+unfoldable pub settled_if : Sheet → Book → ℕ → Book
+settled_if S s x = pick (eqb (s.seen x) (parts S x)) (settled S s x) s
 
 -- ---- payments, from counts
 

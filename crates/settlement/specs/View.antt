@@ -20,14 +20,13 @@ pub record Rows : Type 0 where
   pub cell : ℕ → ℕ → ℕ
   pub good : ℕ → ℕ → Bool
 
--- a citation: its transaction, whether the part is good, and the rank of its block
+-- a citation: its transaction, and whether the part is good
 pub record Event : Type 0 where
   pub tx : ℕ
   pub good : Bool
-  pub rank : ℕ
 
 unfoldable pub event_at : Rows → ℕ → ℕ → Event
-event_at R j p = record { tx = R.cell j p; good = R.good j p; rank = R.rank j (p / 32) }
+event_at R j p = record { tx = R.cell j p; good = R.good j p }
 
 -- a weight of each citation, summed over the view
 unfoldable pub view_sum : Sheet → Rows → View → (Event → ℕ) → ℕ

@@ -1,5 +1,5 @@
 // Contracts, run in log order (document 01, "Settlement in a view").
-ghost use Rattle.std.specs.Prelude.{◌*◌, ◌<◌, ◌≤◌, ℕ, length, take, List, map, ◌≡◌};
+ghost use Rattle.std.specs.Prelude.{◌*◌, ◌<◌, ◌≤◌, ℕ, length, take, List, [], map, ◌≡◌};
 ghost use Rattle.ordering.specs.Table.{Ordered, block_id, count_in, rank_in, ref_in};
 ghost use Rattle.settlement.specs.Cells.{rows_in};
 ghost use Rattle.settlement.specs.Books.{Book, counted, run_all};
@@ -12,17 +12,15 @@ ghost use Rattle.sums.specs.Seq.{fill, written};
 
 use crate::counts::{clear, count_of, count_one};
 use crate::rows::{cite_at, good_at};
-use ordering::rank_at;
-use sheets::operations::run_at;
+use sheets::operations::run;
 use sheets::parts::parts_of;
 use sheets::sheet::{Sizes, is_contract};
 
-// Settles the contract x, at a citation in a block of a rank, if all its parts were seen.
+// Settles the contract x if all its parts were seen.
 fn settle_one(
     sheet: &[u8],
     z: Sizes,
     x: u16,
-    rank: u32,
     counts: &[u32],
     table: &mut [u8],
     registers: [u32; 64],
@@ -30,7 +28,7 @@ fn settle_one(
     requires { (x < z.t) × (z.t ≤ length table.old) }
     ensures { (c₀ t₀ : List ℕ) (s : Book)
         → Holds z c₀ t₀ s counts.now table.old registers
-        → Holds z c₀ t₀ (settled_if (sheet_in sheet.now z) s x rank) counts.now table.new result }
+        → Holds z c₀ t₀ (settled_if (sheet_in sheet.now z) s x) counts.now table.new result }
 {
     let at = x as usize;
     if count_of(counts, 2 * at) != parts_of(sheet, z, x) as u32 {
@@ -40,7 +38,7 @@ fn settle_one(
         table[at] = 2;
         return registers;
     }
-    let ran = run_at(sheet, z, x, rank, registers);
+    let ran = run(sheet, z, x, registers);
     if !ran.passes {
         table[at] = 2;
         return registers;
@@ -54,7 +52,6 @@ fn book(
     sheet: &[u8],
     z: Sizes,
     x: u16,
-    rank: u32,
     good: bool,
     counts: &mut [u32],
     table: &mut [u8],
@@ -63,16 +60,15 @@ fn book(
     requires { (x < z.t) × (2 * z.t ≤ length counts.old) × (z.t ≤ length table.old) }
     ensures { (c₀ t₀ : List ℕ) (s : Book)
         → Holds z c₀ t₀ s counts.old table.old registers
-        → Holds z c₀ t₀ (settled_if (sheet_in sheet.now z) (counted s (event_of x good rank)) x rank) counts.new table.new result }
+        → Holds z c₀ t₀ (settled_if (sheet_in sheet.now z) (counted s (event_of x good)) x) counts.new table.new result }
 {
     count_one(counts, x, good);
-    settle_one(sheet, z, x, rank, counts, table, registers)
+    settle_one(sheet, z, x, counts, table, registers)
 }
 
 // The block with the id b. Places that cite no contract, empty ones too, are passed over.
 fn run_block(
     sheet: &[u8],
-    ranks: &[u32],
     cites: &[u16],
     good: &[u8],
     z: Sizes,
@@ -85,14 +81,13 @@ fn run_block(
     ensures { (c₀ t₀ : List ℕ) (s : Book)
         → Holds z c₀ t₀ s counts.old table.old registers
         → Holds z c₀ t₀
-        (run_all (sheet_in sheet.now z) s (block_events (rows_in ranks.now cites.now good.now) (ref_in b)))
+        (run_all (sheet_in sheet.now z) s (block_events (rows_in [] cites.now good.now) (ref_in b)))
         counts.new
         table.new
         result }
 {
     let j = b / 128;
     let from = b % 128 * 32;
-    let rank = rank_at(ranks, j, b % 128);
     let mut cells = registers;
     for q in 0..32u16 {
         let p = from + q;
@@ -100,16 +95,7 @@ fn run_block(
         if !is_contract(sheet, z, x) {
             continue;
         }
-        let next = book(
-            sheet,
-            z,
-            x,
-            rank.0,
-            good_at(good, j, p),
-            counts,
-            table,
-            cells,
-        );
+        let next = book(sheet, z, x, good_at(good, j, p), counts, table, cells);
         cells = next;
     }
     cells
@@ -118,7 +104,6 @@ fn run_block(
 // The first n blocks of a list of ids.
 fn run_log(
     sheet: &[u8],
-    ranks: &[u32],
     cites: &[u16],
     good: &[u8],
     z: Sizes,
@@ -132,14 +117,14 @@ fn run_log(
     ensures { (c₀ t₀ : List ℕ) (s : Book)
         → Holds z c₀ t₀ s counts.old table.old registers
         → Holds z c₀ t₀
-        (run_all (sheet_in sheet.now z) s (log_events (rows_in ranks.now cites.now good.now) (map ref_in (take n order.now))))
+        (run_all (sheet_in sheet.now z) s (log_events (rows_in [] cites.now good.now) (map ref_in (take n order.now))))
         counts.new
         table.new
         result }
 {
     let mut cells = registers;
     for i in 0..n {
-        let next = run_block(sheet, ranks, cites, good, z, order[i], counts, table, cells);
+        let next = run_block(sheet, cites, good, z, order[i], counts, table, cells);
         cells = next;
     }
     cells
@@ -200,7 +185,5 @@ pub fn settle_contracts(
     clear(counts, z.t);
     pend_all(table, z.t);
     let n = ordering::global_log(z.m, ranks, whole(view), order);
-    run_log(
-        sheet, ranks, cites, good, z, order, n, counts, table, [0u32; 64],
-    )
+    run_log(sheet, cites, good, z, order, n, counts, table, [0u32; 64])
 }

@@ -12,11 +12,11 @@ use native.Mathlib.Decide.{dec_lt}
 use native.Mathlib.Nat.{suc-add, zero-add}
 use native.Mathlib.Numerals.{add-one}
 use native.Mathlib.Omega.{arith}
-use Rattle.transactions.specs.Content.{Operation, Transaction, in_term, no_operation}
-use Rattle.transactions.specs.Body.{operation_in, operations_from, termed_of}
+use Rattle.transactions.specs.Content.{Operation, Transaction, no_operation}
+use Rattle.transactions.specs.Body.{operation_in, operations_from, transaction_of}
 use Rattle.sheets.proofs.SheetCells.{tx-from, tx-past}
-use Rattle.sheets.specs.Operations.{Done, Leaves, assigned, operate, operate_to, operated, operated_at, tested}
-use Rattle.sheets.specs.Sheet.{Sheet, sheet_in, slot, tx_at}
+use Rattle.sheets.specs.Operations.{Leaves, Done, assigned, operate, operate_to, operated, tested}
+use Rattle.sheets.specs.Sheet.{sheet_in, slot, tx_at}
 use Rattle.sums.proofs.SeqLaws.{get_d_tabulate, length-tabulate}
 use Rattle.sums.proofs.TestLaws.{passed, pick-false, pick_true, took}
 use Rattle.sums.specs.Seq.{tabulate}
@@ -176,7 +176,7 @@ pub run_in : (b : List ℕ) (z : Sizes) (x : ℕ) (body list : List ℕ) (n : �
     → list ≡ drop (operations_from body) body → n ≡ get_or body 3 0
     → Leaves z.g r (operate_to (tabulate n (operation_in list)) n (take z.g cells))
     → Leaves z.g r (operated (sheet_in b z) x (take z.g cells))
-unfolding operated termed_of
+unfolding operated transaction_of
 run_in b z x body list n cells r h e el en q =
     let t : tabulate n (operation_in list) ≡ (tx_at (sheet_in b z) x).operations =
     ap₂ (λ (l : List ℕ) (c : ℕ). tabulate c (operation_in l)) el en ∙ ap (λ (t : Transaction). t.operations) (tx-from b z x body e h) in
@@ -189,13 +189,3 @@ unfolding operated operate_to
 run_past b z x cells r h p q =
     subst (λ (t : Transaction). Leaves z.g r (operate_to t.operations (length t.operations) (take z.g cells))) (sym (tx-past b z x h))
     record { passes = p; registers = ap (take z.g) q }
-
--- in a block of a rank
-module _ (S : Sheet) (x k g : ℕ) (cells : List ℕ) (r : Ran) where
-  pub run_within : in_term (tx_at S x) k ≡ true → Leaves g r (operated S x (take g cells)) → Leaves g r (operated_at S x k (take g cells))
-  unfolding operated_at
-  run_within e q = subst (Leaves g r) (sym (pick_true _ _ _ e)) q
-
-  pub run_outside : in_term (tx_at S x) k ≡ false → r.passes ≡ false → r.registers ≡ cells → Leaves g r (operated_at S x k (take g cells))
-  unfolding operated_at
-  run_outside e p q = subst (Leaves g r) (sym (pick-false _ _ _ e)) (record { passes = p; registers = ap (take g) q })

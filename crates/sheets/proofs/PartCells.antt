@@ -9,7 +9,7 @@ use mathlib.Core.List.{List}
 use mathlib.Core.Path.{◌∙◌, ◌≡◌, ap, ap₂, refl, sym}
 use native.Mathlib.Omega.{arith}
 use Rattle.transactions.specs.Content.{Entry, Transaction, entry_of, no_entry}
-use Rattle.transactions.specs.Body.{entry_in, termed_of}
+use Rattle.transactions.specs.Body.{entry_in, transaction_of}
 use Rattle.sheets.proofs.HomeLaws.{home_lt}
 use Rattle.sheets.proofs.SheetCells.{sheet-m, tx-from, tx-past}
 use Rattle.sheets.specs.Inner.{entry_at_home, first_at_home}
@@ -43,7 +43,7 @@ module _ (b : List ℕ) (z : Sizes) (x j : ℕ) where
 
   pub part_in : (body list : List ℕ) (n : ℕ) (r : Bool) → x < z.t → body ≡ slot b z x → r ≡ any_to n (entry_at_home (sheet_in b z) (entry_in list) j)
       → list ≡ drop 4 body → n ≡ get_or body 1 0 → r ≡ has_part (sheet_in b z) x j
-  unfolding has_part termed_of entry_at_home
+  unfolding has_part transaction_of entry_at_home
   part_in body list n r h e q el en =
       q ∙ ap₂ (λ (l : List ℕ) (c : ℕ). any_to c (entry_at_home (sheet_in b z) (entry_in l) j)) el en
       ∙ sym (tabulate_each no_entry _ _ any_to any_to_ext (λ (a : Entry). eqb (home (sheet_in b z) a.account) j))

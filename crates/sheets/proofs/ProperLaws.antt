@@ -18,7 +18,7 @@ use Rattle.sums.specs.Sum.{sum_to}
 use Rattle.sums.specs.Test.{all_to}
 use Rattle.transactions.proofs.BodyLaws.{judged_anywhere}
 use Rattle.refusals.specs.declared.Checked.{Checked}
-use Rattle.transactions.specs.Check.{accounts_once, balanced, counts_ok, distinct, entries_ok, entry_ok, in_range, judge_transaction, lists_in_range, new_at, term_ok}
+use Rattle.transactions.specs.Check.{accounts_once, balanced, counts_ok, distinct, entries_ok, entry_ok, in_range, judge_transaction, new_at}
 use Rattle.frames.proofs.HeaderLaws.{header_bounds}
 use Rattle.frames.specs.Balances.{balances_ok}
 use Rattle.frames.specs.Header.{header_ok}
@@ -61,10 +61,9 @@ module _ (at a g : ℕ) (t : Transaction) (fine : judge_transaction at a g t ≡
   on_sheet n k f h e i l = h i (all_to_true n f e i l)
 
   tx_facts : TxProper a t
-  unfolding in_range lists_in_range entry_ok accounts_once balanced
+  unfolding in_range entry_ok accounts_once balanced
   tx_facts =
-      let range = (both_true (term_ok t.first t.last) tests.0).1 in
-      let lists = (both_true (counts_ok t.kind (length t.debits) (length t.credits) (length t.operations)) range).1 in
+      let lists = (both_true (counts_ok t.kind (length t.debits) (length t.credits) (length t.operations)) tests.0).1 in
       let debits = both_true (entries_ok a (length t.debits) (entry_of t.debits)) lists in
       let credits = both_true (entries_ok a (length t.credits) (entry_of t.credits)) debits.1 in
       let once = (both_true (distinct (length t.debits) (entry_of t.debits)) tests.1).0 in

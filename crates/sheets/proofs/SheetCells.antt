@@ -1,25 +1,24 @@
 -- The sheet read from its cells: what each accessor's branch returns.
 -- Assumes nothing.
-use native.Mathlib.Decide.{dec_lt}
-use Prim.Native.Nat.{◌*◌, ◌+◌, ◌<◌, ◌≤◌, min, ℕ}
-use borrow.Author.Tests.{eq-eqb, eqb-true, le-leb, ltb-false, ltb-true, ne_eqb}
-use lib.Dec.{eqb, leb, ltb}
+use Prim.Native.Nat.{◌*◌, ◌<◌, ◌≤◌, min, ℕ}
+use borrow.Author.Tests.{eq-eqb, eqb-true, ltb-false, ltb-true, ne_eqb}
+use lib.Dec.{eqb, ltb}
 use lib.ListN.{drop, get_or}
 use mathlib.Core.Bool.{Bool, false, true}
 use mathlib.Core.List.{List, []}
 use mathlib.Core.Path.{◌∙◌, ◌≡◌, ap, ap₂, refl, sym}
 use native.Mathlib.Omega.{arith}
-use Rattle.transactions.specs.Content.{Entry, Transaction, highest_rank, in_term, no_entry, no_transaction}
-use Rattle.transactions.specs.Body.{credits_from, entry_in, lists_end, termed_of}
+use Rattle.transactions.specs.Content.{Entry, Transaction, no_entry, no_transaction}
+use Rattle.transactions.specs.Body.{credits_from, entry_in, transaction_of}
 use Rattle.sheets.specs.Inner.{entries_on, entry_on}
 use Rattle.sheets.specs.Parts.{amount_on, is_contract}
 use Rattle.sheets.specs.Sheet.{balance_in, sheet_from, sheet_in, slot, tx_at, tx_count}
 use Rattle.sums.proofs.SeqLaws.{get_d_tabulate, length-tabulate, tabulate_each, tabulate-past}
 use Rattle.sums.proofs.SumLaws.{sum_ext, sum_zero}
-use Rattle.sums.proofs.TestLaws.{given_false, given_true, took}
+use Rattle.sums.proofs.TestLaws.{given_false, given_true}
 use Rattle.sums.specs.Seq.{tabulate}
 use Rattle.sums.specs.Sum.{sum_to}
-use Rattle.sums.specs.Test.{both, given, pick}
+use Rattle.sums.specs.Test.{given}
 use Rattle.sheets.specs.declared.sheet.Sizes.{Sizes}
 use Rattle.fields.specs.Number.{le}
 
@@ -42,7 +41,7 @@ module _ (b : List ℕ) (z : Sizes) where
   unfolding sheet_in sheet_from
   sheet-count = length-tabulate z.t _
 
-  pub tx_in : (x : ℕ) → x < z.t → tx_at (sheet_in b z) x ≡ termed_of (slot b z x)
+  pub tx_in : (x : ℕ) → x < z.t → tx_at (sheet_in b z) x ≡ transaction_of (slot b z x)
   unfolding sheet_in sheet_from
   tx_in x h = get_d_tabulate z.t _ x no_transaction h
 
@@ -60,26 +59,12 @@ module _ (b : List ℕ) (z : Sizes) where
 
   module _ (x : ℕ) (body : List ℕ) (e : body ≡ slot b z x) where
     -- what its slot says is transaction x
-    pub tx-from : x < z.t → termed_of body ≡ tx_at (sheet_in b z) x
-    tx-from h = ap termed_of e ∙ sym (tx_in x h)
+    pub tx-from : x < z.t → transaction_of body ≡ tx_at (sheet_in b z) x
+    tx-from h = ap transaction_of e ∙ sym (tx_in x h)
 
     pub kind-in : x < z.t → (r : ℕ) → r ≡ get_or body 0 0 → r ≡ (tx_at (sheet_in b z) x).kind
-    unfolding termed_of
+    unfolding transaction_of
     kind-in h r q = q ∙ ap (λ (t : Transaction). t.kind) (tx-from h)
-
-  -- the term of transaction x, read from where its lists end
-  pub term_in : (x k : ℕ) (body ranks : List ℕ) (first last : ℕ) → body ≡ slot b z x → x < z.t → ranks ≡ drop (lists_end body) body → first ≡ le 4 ranks 0 → last ≡ le 4 ranks 4
-      → (r : Bool) → r ≡ both (leb first k) (leb k last) → r ≡ in_term (tx_at (sheet_in b z) x) k
-  unfolding in_term termed_of
-  term_in x k body ranks first last e h er ef el r q =
-      let f : first ≡ (tx_at (sheet_in b z) x).first = ef ∙ ap (λ (s : List ℕ). le 4 s 0) er ∙ ap (λ (t : Transaction). t.first) (tx-from x body e h) in
-      let l : last ≡ (tx_at (sheet_in b z) x).last = el ∙ ap (λ (s : List ℕ). le 4 s 4) er ∙ ap (λ (t : Transaction). t.last) (tx-from x body e h) in
-      q ∙ ap₂ (λ (a c : ℕ). both (leb a k) (leb k c)) f l
-
-  pub term_past : (x k : ℕ) → z.t ≤ x → k ≤ highest_rank → true ≡ in_term (tx_at (sheet_in b z) x) k
-  unfolding in_term
-  term_past x k h u =
-      sym (ap (λ (t : Transaction). both (leb t.first k) (leb k t.last)) (tx-past x h) ∙ took _ (le-leb 0 k (omega arith)) (le-leb k highest_rank u))
 
   pub kind-past : (x : ℕ) → z.t ≤ x → 0 ≡ (tx_at (sheet_in b z) x).kind
   kind-past x h = sym (ap (λ (t : Transaction). t.kind) (tx-past x h))
@@ -126,13 +111,13 @@ module _ (b : List ℕ) (z : Sizes) (x k : ℕ) where
 
   module _ (body list : List ℕ) (n r : ℕ) (h : x < z.t) (e : body ≡ slot b z x) (q : r ≡ entries_on (entry_in list) n k) where
     pub debit-in : list ≡ drop 4 body → n ≡ get_or body 1 0 → r ≡ amount_on (tx_at (sheet_in b z) x).debits k
-    unfolding termed_of
+    unfolding transaction_of
     debit-in el en =
         q ∙ ap₂ (λ (l : List ℕ) (c : ℕ). entries_on (entry_in l) c k) el en
         ∙ sym (amount_tab _ _ k) ∙ ap (λ (t : Transaction). amount_on t.debits k) (tx-from b z x body e h)
 
     pub credit-in : list ≡ drop (credits_from body) body → n ≡ get_or body 2 0 → r ≡ amount_on (tx_at (sheet_in b z) x).credits k
-    unfolding termed_of
+    unfolding transaction_of
     credit-in el en =
         q ∙ ap₂ (λ (l : List ℕ) (c : ℕ). entries_on (entry_in l) c k) el en
         ∙ sym (amount_tab _ _ k) ∙ ap (λ (t : Transaction). amount_on t.credits k) (tx-from b z x body e h)

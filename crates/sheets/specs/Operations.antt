@@ -1,7 +1,7 @@
 -- Operations on the registers (document 01, "Operations").
 -- Assumes nothing.
 use Rattle.std.specs.Prelude.{◌+◌, ◌-◌, suc, zero, ℕ, eqb, leb, get_or, length, set, take, Bool, false, true, List, ◌≡◌}
-use Rattle.transactions.specs.Content.{Operation, in_term, no_operation}
+use Rattle.transactions.specs.Content.{Operation, no_operation}
 use Rattle.sheets.specs.Sheet.{Sheet, tx_at}
 use Rattle.sums.specs.Test.{both, pick}
 use Rattle.sheets.specs.declared.operations.Ran.{Ran}
@@ -37,10 +37,6 @@ operate_to ops (suc k) r =
 -- all operations of transaction x
 unfoldable pub operated : Sheet → ℕ → List ℕ → Done
 operated S x r = operate_to (tx_at S x).operations (length (tx_at S x).operations) r
-
--- the same in a block of rank k (request 03): "A contract is returned if the rank of the block in which it runs lies outside"
-unfoldable pub operated_at : Sheet → ℕ → ℕ → List ℕ → Done
-operated_at S x k r = pick (in_term (tx_at S x) k) (operated S x r) (tested false r)
 
 -- what a run of operations leaves: whether all passed, and in the first g of 64 cells the registers as they then are; the other cells mean nothing
 pub record Leaves (g : ℕ) (r : Ran) (d : Done) : Type 0 where

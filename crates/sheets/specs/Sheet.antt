@@ -2,7 +2,7 @@
 -- Assumes nothing.
 use Rattle.std.specs.Prelude.{◌*◌, ◌+◌, min, ℕ, drop, get_or, length, take, List}
 use Rattle.transactions.specs.Content.{Transaction, no_transaction}
-use Rattle.transactions.specs.Body.{termed_of}
+use Rattle.transactions.specs.Body.{transaction_of}
 use Rattle.sums.specs.Seq.{tabulate}
 use Rattle.sheets.specs.declared.sheet.Sizes.{Sizes}
 use Rattle.fields.specs.Number.{le}
@@ -27,29 +27,21 @@ tx_at S x = get_or S.transactions x no_transaction
 abbrev pub balance : Sheet → ℕ → ℕ
 balance S k = get_or S.balances k 0
 
--- ---- the cells: balance k is the 8 bytes at 8 k, transaction x its lists and behind them its term, as in a body of kind 6, at the start of its slot
+-- ---- the cells: balance k is the 8 bytes at 8 k, transaction x the body at the start of the 100 bytes at 8 a + 100 x
 
--- the bytes of a slot: lists of a proper transaction end after at most 100, and the term has 8
-abbrev pub slot_size : ℕ
-slot_size = 108
-
--- where the slot of transaction x begins, and where the slots of x transactions end
+-- where the slot of transaction x begins
 abbrev pub slot_from : ℕ → ℕ → ℕ
-slot_from a x = 8 * a + slot_size * x
-
--- what the largest sheet takes: 1,024 accounts and 1,024 transactions
-abbrev pub largest_sheet : ℕ
-largest_sheet = slot_from 1024 1024
+slot_from a x = 8 * a + 100 * x
 
 abbrev pub slot_in : ℕ → List ℕ → ℕ → List ℕ
-slot_in a cells x = take slot_size (drop (slot_from a x) cells)
+slot_in a cells x = take 100 (drop (slot_from a x) cells)
 
 -- a balance of any cells is cut to 2^40; one that was loaded is at most that
 abbrev pub balance_in : List ℕ → ℕ → ℕ
 balance_in cells k = min (le 8 cells (8 * k)) 1099511627776
 
 abbrev pub transaction_in : ℕ → List ℕ → ℕ → Transaction
-transaction_in a cells x = termed_of (slot_in a cells x)
+transaction_in a cells x = transaction_of (slot_in a cells x)
 
 -- the sheet with n transactions in the cells
 unfoldable pub sheet_from : ℕ → ℕ → ℕ → ℕ → List ℕ → Sheet

@@ -1,11 +1,11 @@
 // Operations on the registers (document 01, "Operations").
 ghost use Rattle.std.specs.Prelude.{get_or, set, take, ◌≡◌};
 ghost use Rattle.transactions.specs.Body.{operation_in};
-ghost use Rattle.sheets.specs.Operations.{Leaves, operate, operate_to, operated, operated_at};
+ghost use Rattle.sheets.specs.Operations.{Leaves, operate, operate_to, operated};
 ghost use Rattle.sheets.specs.Sheet.{sheet_in};
 ghost use Rattle.sums.specs.Seq.{tabulate};
 
-use crate::sheet::{Sizes, in_term, slot_of};
+use crate::sheet::{Sizes, slot_of};
 use fields::byte_at;
 use transactions::lists::{code_at, operations, register_at, value_at};
 
@@ -106,14 +106,4 @@ pub fn run(sheet: &[u8], z: Sizes, x: u16, registers: [u32; 64]) -> Ran
     }
     let body = slot_of(sheet, z, x);
     run_list(z.g, operations(body), byte_at(body, 3), registers)
-}
-
-// The same in a block of a rank: outside the transaction's term nothing passes.
-pub fn run_at(sheet: &[u8], z: Sizes, x: u16, rank: u32, registers: [u32; 64]) -> Ran
-    ensures { Leaves z.g result (operated_at (sheet_in sheet.now z) x rank (take z.g registers)) }
-{
-    if !in_term(sheet, z, x, rank) {
-        return after(false, registers);
-    }
-    run(sheet, z, x, registers)
 }

@@ -1,14 +1,12 @@
 // The sheet in its cells: what it says of accounts and transactions.
-ghost use Rattle.std.specs.Prelude.{◌≤◌, ◌≡◌, leb};
-ghost use Rattle.sums.specs.Test.{both};
+ghost use Rattle.std.specs.Prelude.{◌≤◌, ◌≡◌};
 ghost use Rattle.transactions.specs.Body.{entry_in};
-ghost use Rattle.transactions.specs.Content.{in_term};
 ghost use Rattle.sheets.specs.Inner.{entries_on, entry_on};
 ghost use Rattle.sheets.specs.Parts.{credit_on, debit_on, is_contract};
-ghost use Rattle.sheets.specs.Sheet.{balance, sheet_in, slot, slot_from, tx_at};
+ghost use Rattle.sheets.specs.Sheet.{balance, sheet_in, slot, tx_at};
 
 use fields::{byte_at, front, rest, u64_at};
-use transactions::lists::{account_at, amount_at, credits, debits, term, term_first, term_last};
+use transactions::lists::{account_at, amount_at, credits, debits};
 
 // The sizes of a sheet.
 #[derive(Drop)]
@@ -19,24 +17,11 @@ pub struct Sizes {
     pub t: u16,
 }
 
-// The bytes of a transaction's slot.
-const SLOT_SIZE: usize = 108;
-
-// What the largest sheet takes: 1,024 accounts and 1,024 transactions.
-pub const LARGEST_SHEET: usize = 118784;
-
-// Where the slot of transaction x begins on a sheet of a accounts, and where the slots of x transactions end.
-pub fn slot_from(a: u16, x: u16) -> usize
-    ensures { result ≡ slot_from a x }
-{
-    8 * (a as usize) + SLOT_SIZE * (x as usize)
-}
-
-// The slot of transaction x: its lists, its term, and what lies behind.
+// The slot of transaction x: its body, and what lies behind it up to 100 bytes.
 pub fn slot_of(sheet: &[u8], z: Sizes, x: u16) -> &[u8]
     ensures { result.now ≡ slot sheet.now z x }
 {
-    front(rest(sheet, slot_from(z.a, x)), SLOT_SIZE)
+    front(rest(sheet, 8 * (z.a as usize) + 100 * (x as usize)), 100)
 }
 
 // The type of transaction x (document 01's word; `kind` in the record), 0 where there is none.
@@ -55,27 +40,6 @@ pub fn is_contract(sheet: &[u8], z: Sizes, x: u16) -> bool
     ensures { result ≡ is_contract (sheet_in sheet.now z) x }
 {
     kind_of(sheet, z, x) == 1
-}
-
-// Whether a rank lies in a term.
-fn between(first: u32, last: u32, rank: u32) -> bool
-    ensures { result ≡ both (leb first rank) (leb rank last) }
-{
-    if rank < first {
-        return false;
-    }
-    rank <= last
-}
-
-// Whether a rank lies in the term of transaction x; every rank does where there is none.
-pub fn in_term(sheet: &[u8], z: Sizes, x: u16, rank: u32) -> bool
-    ensures { result ≡ in_term (tx_at (sheet_in sheet.now z) x) rank }
-{
-    if z.t <= x {
-        return true;
-    }
-    let ranks = term(slot_of(sheet, z, x));
-    between(term_first(ranks), term_last(ranks), rank)
 }
 
 // The starting balance of account k.

@@ -1,13 +1,12 @@
 -- The least lengths of an offer's buffers by the sheet's header (docs/BUFFERS.md).
 -- Assumes nothing.
-use Rattle.std.specs.Prelude.{◌*◌, ℕ, List, [], ◌∷◌}
-use Rattle.sheets.specs.Sheet.{slot_from}
+use Rattle.std.specs.Prelude.{◌*◌, ◌+◌, ℕ, List, [], ◌∷◌}
 use Rattle.state.specs.declared.lengths.Lengths.{Lengths}
 use Rattle.state.specs.declared.ledger.Ledger.{Ledger}
 
 abbrev pub least_lengths : Ledger → Lengths
 least_lengths l = record {
-  sheet = slot_from l.loading.a l.loading.t;
+  sheet = 8 * l.loading.a + 100 * l.loading.t;
   ranks = 128 * l.loading.m;
   cuts = 2048 * l.loading.m;
   cites = 4096 * l.loading.m;

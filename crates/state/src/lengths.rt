@@ -6,7 +6,6 @@ ghost use Rattle.plain.specs.Plain.{lent_answer};
 
 use crate::ledger::Ledger;
 use refusals::{Checked, Refusal};
-use sheets::sheet::slot_from;
 
 #[derive(Drop)]
 pub struct Lengths {
@@ -28,7 +27,7 @@ pub fn least_lengths(ledger: Ledger) -> Lengths
     let m = loading.m as usize;
     let t = loading.t as usize;
     Lengths {
-        sheet: slot_from(loading.a, loading.t),
+        sheet: 8 * (loading.a as usize) + 100 * t,
         ranks: 128 * m,
         cuts: 2048 * m,
         cites: 4096 * m,

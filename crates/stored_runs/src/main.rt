@@ -31,7 +31,7 @@ fn fill(fd: i32, space: &mut [u8], n: usize) -> bool {
 
 // Whether the reading of a run is the given text.
 fn agrees(run: &[u8], text: &[u8]) -> bool {
-    let mut sheet = [0u8; 118784];
+    let mut sheet = [0u8; 110592];
     let mut ranks = [0u32; 2048];
     let mut cuts = [0u16; 32768];
     let mut cites = [0u16; 65536];

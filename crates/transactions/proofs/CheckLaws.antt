@@ -1,10 +1,10 @@
 -- The check of a transaction in the terms of the code, and which case of it holds.
 -- Assumes nothing.
-use Prim.Native.Nat.{◌+◌, ◌<◌, ◌≤◌, ℕ}
+use Prim.Native.Nat.{◌<◌, ◌≤◌, ℕ}
 use borrow.Author.Tests.{eq-eqb, le-ltb, lt-ltb, ne_eqb}
 use lib.Dec.{eqb}
 use lib.ListN.{drop, get_or, length}
-use mathlib.Core.Bool.{Bool, false, not, true}
+use mathlib.Core.Bool.{false, not, true}
 use mathlib.Core.List.{List}
 use mathlib.Core.Path.{◌∙◌, ◌≡◌, ap, ap₂, refl}
 use native.Mathlib.Omega.{arith}
@@ -12,9 +12,9 @@ use Rattle.sums.proofs.SeqLaws.{length-tabulate, tabulate_each}
 use Rattle.sums.proofs.SumLaws.{sum_ext}
 use Rattle.sums.proofs.TestLaws.{all_to_ext, passed, took}
 use Rattle.sums.specs.Test.{all_to, both}
-use Rattle.transactions.specs.Body.{content_of, credits_from, entry_in, lists_end, operation_in, operations_from, termed_of, transaction_of}
-use Rattle.transactions.specs.Check.{accounts_once, amounts, balanced, check_termed, check_transaction, counts_ok, distinct, entries_ok, entry_ok, in_range, judge_transaction, lists_in_range, operation_ok, operations_ok, term_ok}
-use Rattle.transactions.specs.Content.{Entry, entry_of, is_whole, no_entry, no_operation}
+use Rattle.transactions.specs.Body.{credits_from, end_due, entry_in, operation_in, operations_from, transaction_of}
+use Rattle.transactions.specs.Check.{accounts_once, amounts, balanced, check_transaction, counts_ok, distinct, entries_ok, entry_ok, in_range, judge_transaction, operation_ok, operations_ok}
+use Rattle.transactions.specs.Content.{Entry, entry_of, no_entry, no_operation}
 use Rattle.refusals.specs.declared.Checked.TheVariants.{Fine, Refused}
 use Rattle.refusals.specs.declared.Refusal.TheVariants.{AccountTwice, BodyLength, OutOfRange, SumsDiffer}
 
@@ -28,11 +28,11 @@ amounts_ext n e f h = sum_ext n _ _ (λ k l. ap (λ (x : Entry). x.amount) (h k 
 -- the tests in the terms of the code, which reads counts and elements and makes no list
 module _ (b : List ℕ) where
   pub range_same : (a g : ℕ)
-      → lists_in_range a g (transaction_of b)
+      → in_range a g (transaction_of b)
       ≡ both (counts_ok (get_or b 0 0) (get_or b 1 0) (get_or b 2 0) (get_or b 3 0))
       (both (entries_ok a (get_or b 1 0) (entry_in (drop 4 b)))
       (both (entries_ok a (get_or b 2 0) (entry_in (drop (credits_from b) b))) (operations_ok g (get_or b 3 0) (operation_in (drop (operations_from b) b)))))
-  unfolding lists_in_range transaction_of
+  unfolding in_range transaction_of
   range_same a g =
       rw (
         tabulate_each no_entry (get_or b 1 0) (entry_in (drop 4 b)) all_to all_to_ext (entry_ok a),
@@ -51,65 +51,36 @@ module _ (b : List ℕ) where
   unfolding transaction_of
   sides_same test find same = ap₂ test (tabulate_each no_entry _ (entry_in (drop 4 b)) find same (λ x. x)) (tabulate_each no_entry _ (entry_in (drop (credits_from b) b)) find same (λ x. x))
 
--- which case of the judgement holds. What it finds of the lists does not depend on the term
-module _ (b : List ℕ) (first last at a g : ℕ) where
-  pub judge_term : term_ok first last ≡ false → judge_transaction at a g (content_of b first last) ≡ Refused (OutOfRange at)
-  unfolding judge_transaction in_range
-  judge_term h = took _ (ap not (passed _ h refl)) refl
-
-  module _ (term : term_ok first last ≡ true) where
-    in-range : {v : Bool} → lists_in_range a g (transaction_of b) ≡ v → in_range a g (content_of b first last) ≡ v
-    unfolding in_range lists_in_range transaction_of
-    in-range h = took _ term h
-
-    pub judge-range : lists_in_range a g (transaction_of b) ≡ false → judge_transaction at a g (content_of b first last) ≡ Refused (OutOfRange at)
-    unfolding judge_transaction
-    judge-range h = took _ (ap not (in-range h)) refl
-
-    module _ (range : lists_in_range a g (transaction_of b) ≡ true) where
-      pub judge-twice : accounts_once (transaction_of b) ≡ false → judge_transaction at a g (content_of b first last) ≡ Refused (AccountTwice at)
-      unfolding judge_transaction accounts_once transaction_of
-      judge-twice h = passed _ (ap not (in-range range)) (took _ (ap not h) refl)
-
-      module _ (once : accounts_once (transaction_of b) ≡ true) where
-        pub judge-sums : balanced (transaction_of b) ≡ false → judge_transaction at a g (content_of b first last) ≡ Refused (SumsDiffer at)
-        unfolding judge_transaction accounts_once balanced transaction_of
-        judge-sums h = passed _ (ap not (in-range range)) (passed _ (ap not once) (took _ (ap not h) refl))
-
-        pub judge-fine : balanced (transaction_of b) ≡ true → judge_transaction at a g (content_of b first last) ≡ Fine
-        unfolding judge_transaction accounts_once balanced transaction_of
-        judge-fine h = passed _ (ap not (in-range range)) (passed _ (ap not once) (passed _ (ap not h) refl))
-
--- which case of the check of kind 3 holds, up to the judgement
+-- which case of the check holds
 module _ (b : List ℕ) (at a g : ℕ) where
   pub check_short : length b < 4 → check_transaction b at a g ≡ Refused (BodyLength at)
   unfolding check_transaction
   check_short h = took _ (lt-ltb _ _ h) refl
 
-  pub check_length : 4 ≤ length b → (length b ≡ lists_end b → ⊥) → check_transaction b at a g ≡ Refused (BodyLength at)
-  unfolding check_transaction
-  check_length four h = passed _ (le-ltb _ _ four) (took _ (ap not (ne_eqb _ _ h)) refl)
-
-  pub check_judge : 4 ≤ length b → length b ≡ lists_end b → check_transaction b at a g ≡ judge_transaction at a g (transaction_of b)
-  unfolding check_transaction
-  check_judge four due = passed _ (le-ltb _ _ four) (passed _ (ap not (eq-eqb _ _ due)) refl)
-
--- and of kind 6
-module _ (b : List ℕ) (at a g : ℕ) where
-  pub termed-short : length b < 4 → check_termed b at a g ≡ Refused (BodyLength at)
-  unfolding check_termed
-  termed-short h = took _ (lt-ltb _ _ h) refl
-
   module _ (four : 4 ≤ length b) where
-    pub termed-length : (length b ≡ lists_end b + 8 → ⊥) → check_termed b at a g ≡ Refused (BodyLength at)
-    unfolding check_termed
-    termed-length h = passed _ (le-ltb _ _ four) (took _ (ap not (ne_eqb _ _ h)) refl)
+    pub check-length : (length b ≡ end_due b → ⊥) → check_transaction b at a g ≡ Refused (BodyLength at)
+    unfolding check_transaction
+    check-length h = passed _ (le-ltb _ _ four) (took _ (ap not (ne_eqb _ _ h)) refl)
 
-    module _ (due : length b ≡ lists_end b + 8) where
-      pub termed-whole : is_whole (termed_of b).first (termed_of b).last ≡ true → check_termed b at a g ≡ Refused (OutOfRange at)
-      unfolding check_termed
-      termed-whole h = passed _ (le-ltb _ _ four) (passed _ (ap not (eq-eqb _ _ due)) (took _ h refl))
+    module _ (due : length b ≡ end_due b) where
+      pub check-judge : check_transaction b at a g ≡ judge_transaction at a g (transaction_of b)
+      unfolding check_transaction
+      check-judge = passed _ (le-ltb _ _ four) (passed _ (ap not (eq-eqb _ _ due)) refl)
 
-      pub termed-judge : is_whole (termed_of b).first (termed_of b).last ≡ false → check_termed b at a g ≡ judge_transaction at a g (termed_of b)
-      unfolding check_termed
-      termed-judge h = passed _ (le-ltb _ _ four) (passed _ (ap not (eq-eqb _ _ due)) (passed _ h refl))
+      pub check-range : in_range a g (transaction_of b) ≡ false → check_transaction b at a g ≡ Refused (OutOfRange at)
+      unfolding judge_transaction
+      check-range h = check-judge ∙ took _ (ap not h) refl
+
+      module _ (range : in_range a g (transaction_of b) ≡ true) where
+        pub check-twice : accounts_once (transaction_of b) ≡ false → check_transaction b at a g ≡ Refused (AccountTwice at)
+        unfolding judge_transaction
+        check-twice h = check-judge ∙ passed _ (ap not range) (took _ (ap not h) refl)
+
+        module _ (once : accounts_once (transaction_of b) ≡ true) where
+          pub check-sums : balanced (transaction_of b) ≡ false → check_transaction b at a g ≡ Refused (SumsDiffer at)
+          unfolding judge_transaction
+          check-sums h = check-judge ∙ passed _ (ap not range) (passed _ (ap not once) (took _ (ap not h) refl))
+
+          pub check-fine : balanced (transaction_of b) ≡ true → check_transaction b at a g ≡ Fine
+          unfolding judge_transaction
+          check-fine h = check-judge ∙ passed _ (ap not range) (passed _ (ap not once) (passed _ (ap not h) refl))

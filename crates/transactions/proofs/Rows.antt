@@ -7,8 +7,8 @@ use Rattle.refusals.specs.declared.Checked.TheVariants.{Refused}
 use Rattle.refusals.specs.declared.Refusal.TheVariants.{AccountTwice, OutOfRange}
 use Rattle.sums.specs.Sum.{sum_to}
 use Rattle.sums.specs.Test.{all_to, pick}
-use Rattle.transactions.specs.Check.{accounts_once, balanced, counts_ok, entry_ok, in_range, judge_transaction, lists_in_range, operation_ok, term_ok}
-use Rattle.transactions.specs.Content.{Transaction, highest_rank}
+use Rattle.transactions.specs.Check.{accounts_once, balanced, counts_ok, entry_ok, in_range, judge_transaction, operation_ok}
+use Rattle.transactions.specs.Content.{Transaction}
 
 -- a payment that debits account k twice, 1 each, and credits 3 to account 0
 abbrev twice : ℕ → Transaction
@@ -17,15 +17,13 @@ twice k = record {
   debits = record { account = k; amount = 1 } ∷ record { account = k; amount = 1 } ∷ [];
   credits = record { account = 0; amount = 3 } ∷ [];
   operations = [];
-  first = 1;
-  last = highest_rank;
 }
 
 -- on a sheet of two accounts: 5 before 6, and 6 before 7
 pub five_before_six : judge_transaction 20 2 0 (twice 2) ≡ Refused (OutOfRange 20)
-unfolding sum_to all_to pick entry_ok operation_ok counts_ok lists_in_range term_ok in_range accounts_once balanced judge_transaction
+unfolding sum_to all_to pick entry_ok operation_ok counts_ok in_range accounts_once balanced judge_transaction
 five_before_six = refl
 
 pub six_before_seven : judge_transaction 20 2 0 (twice 1) ≡ Refused (AccountTwice 20)
-unfolding sum_to all_to pick entry_ok operation_ok counts_ok lists_in_range term_ok in_range accounts_once balanced judge_transaction
+unfolding sum_to all_to pick entry_ok operation_ok counts_ok in_range accounts_once balanced judge_transaction
 six_before_seven = refl

@@ -1,10 +1,10 @@
 -- The check of a transaction: refusals 4 to 7, in this order. a and g are the sheet's accounts and registers.
 -- Assumes nothing.
-use Rattle.std.specs.Prelude.{◌+◌, ℕ, eqb, leb, ltb, length, Bool, not, true, List}
+use Rattle.std.specs.Prelude.{ℕ, eqb, leb, ltb, length, Bool, not, true, List}
 use Rattle.sums.specs.Sum.{sum_to}
 use Rattle.sums.specs.Test.{all_to, both, pick}
-use Rattle.transactions.specs.Body.{lists_end, termed_of, transaction_of}
-use Rattle.transactions.specs.Content.{Entry, Operation, Transaction, entry_of, is_whole, operation_of}
+use Rattle.transactions.specs.Body.{end_due, transaction_of}
+use Rattle.transactions.specs.Content.{Entry, Operation, Transaction, entry_of, operation_of}
 use Rattle.refusals.specs.declared.Checked.{Checked}
 use Rattle.refusals.specs.declared.Checked.TheVariants.{Fine, Refused}
 use Rattle.refusals.specs.declared.Refusal.TheVariants.{AccountTwice, BodyLength, OutOfRange, SumsDiffer}
@@ -34,20 +34,12 @@ entries_ok a n e = all_to n (λ k. entry_ok a (e k))
 abbrev pub operations_ok : ℕ → ℕ → (ℕ → Operation) → Bool
 operations_ok g n o = all_to n (λ k. operation_ok g (o k))
 
--- refusal 5 does not apply to its type, its counts and its lists
-unfoldable pub lists_in_range : ℕ → ℕ → Transaction → Bool
-lists_in_range a g t =
+-- refusal 5 does not apply
+unfoldable pub in_range : ℕ → ℕ → Transaction → Bool
+in_range a g t =
     both (counts_ok t.kind (length t.debits) (length t.credits) (length t.operations))
     (both (entries_ok a (length t.debits) (entry_of t.debits))
     (both (entries_ok a (length t.credits) (entry_of t.credits)) (operations_ok g (length t.operations) (operation_of t.operations))))
-
--- refusal 5 of request 03, "the first rank is 0 or above the last", does not apply
-unfoldable pub term_ok : ℕ → ℕ → Bool
-term_ok first last = both (leb 1 first) (leb first last)
-
--- refusal 5 does not apply
-unfoldable pub in_range : ℕ → ℕ → Transaction → Bool
-in_range a g t = both (term_ok t.first t.last) (lists_in_range a g t)
 
 -- of some entries, none before the k-th names its account
 abbrev pub new_at : (ℕ → Entry) → ℕ → Bool
@@ -79,11 +71,4 @@ judge_transaction at a g t =
 unfoldable pub check_transaction : List ℕ → ℕ → ℕ → ℕ → Checked
 check_transaction b at a g =
     pick (ltb (length b) 4) (Refused (BodyLength at))
-    (pick (not (eqb (length b) (lists_end b))) (Refused (BodyLength at)) (judge_transaction at a g (transaction_of b)))
-
--- the same of kind 6, whose body has 8 bytes more; 5 also "if a kind 6 has that whole term"
-unfoldable pub check_termed : List ℕ → ℕ → ℕ → ℕ → Checked
-check_termed b at a g =
-    pick (ltb (length b) 4) (Refused (BodyLength at))
-    (pick (not (eqb (length b) (lists_end b + 8))) (Refused (BodyLength at))
-    (pick (is_whole (termed_of b).first (termed_of b).last) (Refused (OutOfRange at)) (judge_transaction at a g (termed_of b))))
+    (pick (not (eqb (length b) (end_due b))) (Refused (BodyLength at)) (judge_transaction at a g (transaction_of b)))

@@ -1,17 +1,11 @@
-// The check of a transaction's body, of kind 3 and of kind 6: refusals 4, 5, 6 and 7, in this order.
+// The check of a transaction's body: refusals 4, 5, 6 and 7, in this order.
 ghost use Rattle.std.specs.Prelude.{◌≡◌};
-ghost use Rattle.transactions.specs.Body.{content_of, entry_in, operation_in, transaction_of};
-ghost use Rattle.transactions.specs.Check.{accounts_once, amounts, balanced, check_termed, check_transaction, counts_ok, distinct, entries_ok, entry_ok, judge_transaction, lists_in_range, new_at, operation_ok, operations_ok, term_ok};
-ghost use Rattle.transactions.specs.Content.{is_whole};
+ghost use Rattle.transactions.specs.Body.{entry_in, operation_in, transaction_of};
+ghost use Rattle.transactions.specs.Check.{accounts_once, amounts, balanced, check_transaction, counts_ok, distinct, entries_ok, entry_ok, in_range, new_at, operation_ok, operations_ok};
 
-use crate::lists::{
-    account_at, amount_at, credits, debits, lists_end, operations, term, term_first, term_last,
-};
+use crate::lists::{account_at, amount_at, credits, debits, operations};
 use fields::byte_at;
 use refusals::{Checked, Refusal};
-
-// The highest rank that a block can have.
-pub const HIGHEST_RANK: u32 = 4294967295;
 
 fn entry_ok(list: &[u8], k: u8, a: u16) -> bool
     ensures { result ≡ entry_ok a (entry_in list.now k) }
@@ -115,8 +109,8 @@ fn counts_ok(kind: u8, d: u8, c: u8, o: u8) -> bool
     true
 }
 
-fn lists_in_range(body: &[u8], a: u16, g: u16) -> bool
-    ensures { result ≡ lists_in_range a g (transaction_of body.now) }
+fn in_range(body: &[u8], a: u16, g: u16) -> bool
+    ensures { result ≡ in_range a g (transaction_of body.now) }
 {
     let d = byte_at(body, 1);
     let c = byte_at(body, 2);
@@ -148,33 +142,20 @@ fn sums_agree(body: &[u8]) -> bool
     total(debits(body), byte_at(body, 1)) == total(credits(body), byte_at(body, 2))
 }
 
-fn term_ok(first: u32, last: u32) -> bool
-    ensures { result ≡ term_ok first last }
+// The check of a transaction's body on a sheet of a accounts and g registers, of a frame at the offset at.
+pub fn check_transaction(body: &[u8], at: usize, a: u16, g: u16) -> Checked
+    ensures { result ≡ check_transaction body.now at a g }
 {
-    if first < 1 {
-        return false;
+    if body.len() < 4 {
+        return Checked::Refused(Refusal::BodyLength(at));
     }
-    first <= last
-}
-
-// Whether a term is that of every transaction of kind 3.
-fn is_whole(first: u32, last: u32) -> bool
-    ensures { result ≡ is_whole first last }
-{
-    if first != 1 {
-        return false;
+    let lists = (byte_at(body, 1) as usize)
+        + (byte_at(body, 2) as usize)
+        + (byte_at(body, 3) as usize);
+    if body.len() != 4 + 6 * lists {
+        return Checked::Refused(Refusal::BodyLength(at));
     }
-    last == HIGHEST_RANK
-}
-
-// Refusals 5, 6 and 7 of a body whose lists are there, with its term.
-fn judge_body(body: &[u8], first: u32, last: u32, at: usize, a: u16, g: u16) -> Checked
-    ensures { result ≡ judge_transaction at a g (content_of body.now first last) }
-{
-    if !term_ok(first, last) {
-        return Checked::Refused(Refusal::OutOfRange(at));
-    }
-    if !lists_in_range(body, a, g) {
+    if !in_range(body, a, g) {
         return Checked::Refused(Refusal::OutOfRange(at));
     }
     if !accounts_once(body) {
@@ -184,36 +165,4 @@ fn judge_body(body: &[u8], first: u32, last: u32, at: usize, a: u16, g: u16) -> 
         return Checked::Refused(Refusal::SumsDiffer(at));
     }
     Checked::Fine
-}
-
-// The check of a transaction's body of kind 3 on a sheet of a accounts and g registers, of a frame at the offset at.
-pub fn check_transaction(body: &[u8], at: usize, a: u16, g: u16) -> Checked
-    ensures { result ≡ check_transaction body.now at a g }
-{
-    if body.len() < 4 {
-        return Checked::Refused(Refusal::BodyLength(at));
-    }
-    if body.len() != lists_end(body) {
-        return Checked::Refused(Refusal::BodyLength(at));
-    }
-    judge_body(body, 1, HIGHEST_RANK, at, a, g)
-}
-
-// The same of kind 6, whose term stands behind the lists.
-pub fn check_termed(body: &[u8], at: usize, a: u16, g: u16) -> Checked
-    ensures { result ≡ check_termed body.now at a g }
-{
-    if body.len() < 4 {
-        return Checked::Refused(Refusal::BodyLength(at));
-    }
-    let ranks = term(body);
-    if ranks.len() != 8 {
-        return Checked::Refused(Refusal::BodyLength(at));
-    }
-    let first = term_first(ranks);
-    let last = term_last(ranks);
-    if is_whole(first, last) {
-        return Checked::Refused(Refusal::OutOfRange(at));
-    }
-    judge_body(body, first, last, at, a, g)
 }

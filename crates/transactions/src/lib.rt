@@ -1,3 +1,3 @@
-// The body of a transaction (document 01, the kinds table, kind 3; request 03, kind 6): its lists, and its check.
+// The body of a transaction (document 01, the kinds table, kind 3): its lists, and its check.
 pub mod check;
 pub mod lists;

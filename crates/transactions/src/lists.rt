@@ -1,8 +1,7 @@
-// The lists of a transaction's body, and its term. A list is a part of the body that starts where the one before it ended; its
-// elements are read from that byte on. The term of kind 6 starts where the last list ended.
+// The lists of a transaction's body. A list is a part of the body that starts where the one before it ended; its elements
+// are read from that byte on.
 ghost use Rattle.std.specs.Prelude.{drop, ◌≡◌};
-ghost use Rattle.fields.specs.Number.{le};
-ghost use Rattle.transactions.specs.Body.{credits_from, entry_in, lists_end, operation_in, operations_from};
+ghost use Rattle.transactions.specs.Body.{credits_from, entry_in, operation_in, operations_from};
 
 use fields::{byte_at, rest, u16_at, u32_at};
 
@@ -26,35 +25,6 @@ pub fn operations(body: &[u8]) -> &[u8]
         body,
         4 + 6 * (byte_at(body, 1) as usize) + 6 * (byte_at(body, 2) as usize),
     )
-}
-
-// Where the lists end, by their counts.
-pub fn lists_end(body: &[u8]) -> usize
-    ensures { result ≡ lists_end body.now }
-{
-    let lists = (byte_at(body, 1) as usize)
-        + (byte_at(body, 2) as usize)
-        + (byte_at(body, 3) as usize);
-    4 + 6 * lists
-}
-
-// The term of a body of kind 6, from its first byte on, and its ranks.
-pub fn term(body: &[u8]) -> &[u8]
-    ensures { result.now ≡ drop (lists_end body.now) body.now }
-{
-    rest(body, lists_end(body))
-}
-
-pub fn term_first(ranks: &[u8]) -> u32
-    ensures { result ≡ le 4 ranks.now 0 }
-{
-    u32_at(ranks, 0)
-}
-
-pub fn term_last(ranks: &[u8]) -> u32
-    ensures { result ≡ le 4 ranks.now 4 }
-{
-    u32_at(ranks, 4)
 }
 
 // The fields of a list's k-th element.

@@ -104,6 +104,4 @@ module _ (kind : ℕ) (payers debits payees credits codes registers values : Lis
     payee = λ k h. rw (get_d_tabulate (length payees) (entry_with payees credits) k no_entry (rw length-tabulate at h)) (q k);
     credit = λ k h. rw (get_d_tabulate (length payees) (entry_with payees credits) k no_entry (rw length-tabulate at h)) (c k);
     value = λ k h. rw (get_d_tabulate (length codes) (operation_with codes registers values) k no_operation (rw length-tabulate at h)) (v k);
-    first = refl;
-    last = refl;
   }

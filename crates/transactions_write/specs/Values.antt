@@ -4,7 +4,7 @@ use Rattle.std.specs.Prelude.{ℕ, eqb, get_or, length, Bool, List}
 use Rattle.sums.specs.Seq.{tabulate}
 use Rattle.sums.specs.Test.{both}
 use Rattle.transactions.specs.Check.{amounts}
-use Rattle.transactions.specs.Content.{Entry, Operation, Transaction, highest_rank}
+use Rattle.transactions.specs.Content.{Entry, Operation, Transaction}
 use Rattle.transactions_write.specs.declared.Counts.{Counts}
 
 -- the accounts and amounts of the debits (payers, debits) and of the credits (payees, credits), and the codes, registers and values of the operations
@@ -42,8 +42,6 @@ transaction_with kind l = record {
   debits = entries_with l.payers l.debits;
   credits = entries_with l.payees l.credits;
   operations = operations_with l.codes l.registers l.values;
-  first = 1;
-  last = highest_rank;
 }
 
 -- each of seven lengths is the one that its count says

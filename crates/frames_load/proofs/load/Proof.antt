@@ -1,7 +1,7 @@
 use Prim.Native.Nat.{ℕ}
 use borrow.Author.Rules.{rules}
 use mathlib.Core.List.{List}
-use mathlib.Core.Path.{◌∙◌, ap₂, refl, sym}
+use mathlib.Core.Path.{◌∙◌, ap, refl, sym}
 use native.Mathlib.Omega.{arith}
 use Rattle.frames_load.proofs.LoadLaws.{load-short, load_step, with_adds}
 use Rattle.frames_load.specs.Load.{body_stored}
@@ -12,14 +12,7 @@ returns : tie.Need-returns
 returns c = rw c.before.room_of.ensures (with_adds _ _ _ _ _ _ (load-short c.before.before.before.before.args.run.now c.before.before.before.before.args.at c.before.before.before.before.args.s c.before.before.before.before.args.sheet.now (omega (arith, c.before.room_of.ensures))))
 
 returns-2 : tie.Need-returns-2
-returns-2 c =
-    let told = c.before.before.before.before.before.before in
-    let step = told.before.before.before in
-    let start = step.before.before.before.before.before.args in
-    with_adds _ _ _ _ _ _ (load_step start.run.now start.at start.s start.sheet.now (omega (arith, step.before.before.room_of.ensures))
-    (sym step.next-frame.ensures ∙ told.before.step.given.1)
-    (c.before.before.store.ensures
-    ∙ ap₂ (λ (k : ℕ) (x : List ℕ). body_stored start.s k x start.sheet.now) c.before.before.before.before.kind_at.ensures c.before.before.before.body.ensures.0))
+returns-2 c = with_adds _ _ _ _ _ _ (load_step c.before.before.before.before.before.before.before.before.before.before.before.before.before.args.run.now c.before.before.before.before.before.before.before.before.before.before.before.before.before.args.at c.before.before.before.before.before.before.before.before.before.before.before.before.before.args.s c.before.before.before.before.before.before.before.before.before.before.before.before.before.args.sheet.now (omega (arith, c.before.before.before.before.before.before.before.before.before.before.room_of.ensures)) (sym c.before.before.before.before.before.before.before.before.next-frame.ensures ∙ c.before.before.before.before.before.before.step.given.1) (c.before.before.store.ensures ∙ ap (λ (x : List ℕ). body_stored c.before.before.before.before.before.before.before.before.before.before.before.before.before.args.s x c.before.before.before.before.before.before.before.before.before.before.before.before.before.args.sheet.now) c.before.before.before.body.ensures.0))
 
 returns-3 : tie.Need-returns-3
 returns-3 c = with_adds _ _ _ _ _ _ (load_step c.before.before.before.before.before.before.before.before.args.run.now c.before.before.before.before.before.before.before.before.args.at c.before.before.before.before.before.before.before.before.args.s c.before.before.before.before.before.before.before.before.args.sheet.now (omega (arith, c.before.before.before.before.before.room_of.ensures)) (sym c.before.before.before.next-frame.ensures ∙ c.before.step2.given.1) refl)
@@ -35,7 +28,6 @@ load_spec =
     returns
     (λ c κs. search rules)
     (λ c. search rules)
-    (λ c κs. search rules)
     (λ c κs. search rules)
     (λ c κs. search rules)
     (λ c. search rules)

@@ -1,64 +1,36 @@
-use borrow.Author.Tests.{not-false, not-true}
-use mathlib.Core.Path.{◌∙◌, sym}
-use Rattle.acceptance.proofs.JudgeLaws.{is_served, not_served}
-use Rattle.sheets.specs.Sheet.{sheet_in}
-use Rattle.state.proofs.WorkLaws.{beyond-none}
 use borrow.Author.Rules.{rules}
+use mathlib.Core.Path.{◌∙◌, ap₂}
+use Prim.Native.Nat.{ℕ}
+use native.Mathlib.Omega.{arith}
+use Rattle.acceptance.proofs.JudgeLaws.{empty-good, ordered_view}
+use Rattle.state.proofs.WorkLaws.{beyond-none, settled-beyond}
+use Rattle.ordering.specs.Table.{count_in, rank_in}
+use Rattle.settlement.specs.Cells.{rows_in}
+use Rattle.settlement.specs.View.{View}
+use Rattle.escrow.specs.Amounts.{part_good}
+use Rattle.sheets.specs.Sheet.{sheet_in}
 use Rattle.acceptance.proofs.judge.part_good.Statement.{statement}
 use Rattle.acceptance.proofs.judge.part_good.Tie as tie
-use Rattle.acceptance.proofs.judge.part_good.Reads as reads
-use Rattle.acceptance.proofs.judge.part_good.Lts as lts
-use Rattle.acceptance.proofs.judge.covered.Reads as covered-reads
-use Rattle.escrow.proofs.outcome.serves.Reads as serves-reads
-use Rattle.ordering.proofs.rank_at.Reads as rank-at-reads
-use Rattle.settlement.proofs.rows.cite_at.Reads as cite-at-reads
 
--- src/judge.rt:106:9
-cite-at-requires : tie.Need-cite-at-requires
-cite-at-requires c κs = search rules
-
--- src/judge.rt:107:9
-rank-at-requires : tie.Need-rank-at-requires
-rank-at-requires c κs = search rules
-
--- src/judge.rt:108:9
-serves-requires : tie.Need-serves-requires
-serves-requires c κs = search rules
-
--- src/judge.rt:109:9
 returns : tie.Need-returns
-returns c = (not_served (sheet_in c.before.before.before.before.before.before.before.before.before.before.before.args.sheet.now c.before.before.before.before.before.before.before.before.before.before.before.args.z) c.before.before.before.before.before.before.before.before.before.before.before.args.ranks.now c.before.before.before.before.before.before.before.before.before.before.before.args.cites.now c.before.before.before.before.before.before.before.before.before.before.before.args.cut c.before.before.before.before.before.before.before.before.before.before.before.args.i c.before.before.before.before.before.before.before.before.before.before.before.args.p c.before.before.before.before.before.before.before.before.before.before.before.args.good.now _ _ c.before.before.before.cite-at.ensures c.before.before.rank-at.ensures (sym c.before.serves.ensures ∙ not-true _ c.if1.true), beyond-none c.before.before.before.before.before.before.before.before.before.before.before.args.z _)
+returns c = (empty-good c.before.before.before.before.before.before.before.before.before.before.args.sheet.now c.before.before.before.before.before.before.before.before.before.before.args.z _ _ _ _ (omega (arith, c.if1.true, c.before.before.cite-at.ensures)), beyond-none c.before.before.before.before.before.before.before.before.before.before.args.z _)
 
--- src/judge.rt:111:5
-covered-requires : tie.Need-covered-requires
-covered-requires c κs = search rules
+outcome-requires : tie.Need-outcome-requires
+outcome-requires c κs = (ordered_view c.before.before.before.before.before.before.before.before.before.before.before.before.before.before.args.z.m (rank_in c.before.before.before.before.before.before.before.before.before.before.before.before.before.before.args.ranks.now) (count_in c.before.before.before.before.before.before.before.before.before.before.before.before.before.before.args.cut) c.before.before.before.before.before.before.before.before.before.before.before.before.before.before.args.i c.before.before.before.before.before.before.before.before.before.before.before.before.before.before.args.p c.before.before.before.view_of.result c.before.before.before.view_of.ensures c.before.before.before.before.before.before.before.before.before.before.before.before.before.before.requires.ordered, c.before.before.before.before.before.before.before.before.before.before.before.before.before.before.requires.counts_long, c.before.before.before.before.before.before.before.before.before.before.before.before.before.before.requires.table_long, c.before.before.before.before.before.before.before.before.before.before.before.before.before.before.requires.order_long, c.before.before.before.before.before.before.before.before.before.before.before.before.before.before.requires.few, c.before.before.before.before.before.before.before.before.before.before.before.before.before.before.requires.registers)
 
--- src/judge.rt:87:1
-same_length : tie.Need-same-length
-same_length c = search rules
-
--- src/judge.rt:87:1
-same-length-2 : tie.Need-same-length-2
-same-length-2 c = search rules
-
--- src/judge.rt:87:1
-same-length-3 : tie.Need-same-length-3
-same-length-3 c = search rules
-
--- src/judge.rt:87:1
 returns-2 : tie.Need-returns-2
-returns-2 c = (is_served (sheet_in c.before.before.before.before.before.before.before.before.before.before.before.before.before.before.before.before.before.before.before.before.before.args.sheet.now c.before.before.before.before.before.before.before.before.before.before.before.before.before.before.before.before.before.before.before.before.before.args.z) c.before.before.before.before.before.before.before.before.before.before.before.before.before.before.before.before.before.before.before.before.before.args.ranks.now c.before.before.before.before.before.before.before.before.before.before.before.before.before.before.before.before.before.before.before.before.before.args.cites.now c.before.before.before.before.before.before.before.before.before.before.before.before.before.before.before.before.before.before.before.before.before.args.cut c.before.before.before.before.before.before.before.before.before.before.before.before.before.before.before.before.before.before.before.before.before.args.i c.before.before.before.before.before.before.before.before.before.before.before.before.before.before.before.before.before.before.before.before.before.args.p c.before.before.before.before.before.before.before.before.before.before.before.before.before.before.before.before.before.before.before.before.before.args.good.now _ _ c.before.before.before.before.before.before.before.before.before.before.before.before.before.cite-at.ensures c.before.before.before.before.before.before.before.before.before.before.before.before.rank-at.ensures (sym c.before.before.before.before.before.before.before.before.before.before.before.serves.ensures ∙ not-false _ c.before.before.before.before.before.before.before.before.before.before.if1.false) _ c.before.before.before.before.before.before.covered.ensures.0, c.before.before.before.before.before.before.covered.ensures.1)
+unfolding sheet_in rows_in
+returns-2 c = (c.before.before.before.before.before.before.outcome.ensures.1 ∙ ap₂ (λ (v : View) (x : ℕ). part_good (sheet_in c.before.before.before.before.before.before.before.before.before.before.before.before.before.before.before.before.before.before.before.before.before.args.sheet.now c.before.before.before.before.before.before.before.before.before.before.before.before.before.before.before.before.before.before.before.before.before.args.z) (rows_in c.before.before.before.before.before.before.before.before.before.before.before.before.before.before.before.before.before.before.before.before.before.args.ranks.now c.before.before.before.before.before.before.before.before.before.before.before.before.before.before.before.before.before.before.before.before.before.args.cites.now c.before.before.before.before.before.before.before.before.before.before.before.before.before.before.before.before.before.before.before.before.before.args.good.now) v c.before.before.before.before.before.before.before.before.before.before.before.before.before.before.before.before.before.before.before.before.before.args.i x) c.before.before.before.before.before.before.before.before.before.before.view_of.ensures c.before.before.before.before.before.before.before.before.before.before.before.before.before.cite-at.ensures, settled-beyond c.before.before.before.before.before.before.before.before.before.before.before.before.before.before.before.before.before.before.before.before.before.args.sheet.now c.before.before.before.before.before.before.before.before.before.before.before.before.before.before.before.before.before.before.before.before.before.args.z _ _ _ _ c.before.before.before.before.before.before.before.before.before.before.before.before.before.before.before.before.before.before.before.before.before.requires.few (ordered_view c.before.before.before.before.before.before.before.before.before.before.before.before.before.before.before.before.before.before.before.before.before.args.z.m (rank_in c.before.before.before.before.before.before.before.before.before.before.before.before.before.before.before.before.before.before.before.before.before.args.ranks.now) (count_in c.before.before.before.before.before.before.before.before.before.before.before.before.before.before.before.before.before.before.before.before.before.args.cut) c.before.before.before.before.before.before.before.before.before.before.before.before.before.before.before.before.before.before.before.before.before.args.i c.before.before.before.before.before.before.before.before.before.before.before.before.before.before.before.before.before.before.before.before.before.args.p c.before.before.before.before.before.before.before.before.before.before.view_of.result c.before.before.before.before.before.before.before.before.before.before.view_of.ensures c.before.before.before.before.before.before.before.before.before.before.before.before.before.before.before.before.before.before.before.before.before.requires.ordered) c.before.before.before.before.before.before.outcome.ensures.0)
 
 pub part-good-spec : {M : Type 1} → statement M
 part-good-spec =
     tie.close
     (tie.spec
-    cite-at-requires
-    rank-at-requires
-    serves-requires
+    (λ c κs. search rules)
     returns
-    covered-requires
-    same_length
-    same-length-2
-    same-length-3
+    (λ c κs. search rules)
+    outcome-requires
+    (λ c. search rules)
+    (λ c. search rules)
+    (λ c. search rules)
     returns-2)

@@ -16,27 +16,15 @@ returns-2 c = sym (passed _ (ne_eqb _ _ c.before.if1.false) (took _ (eq-eqb _ _ 
 
 returns-3 : tie.Need-returns-3
 unfolding loading_after
-returns-3 c =
-    let three = c.before.before.before in
-    let two = three.before.before in
-    let due = sym three.before.due-with.ensures ∙ three.if3.true in
-    sym (passed _ (ne_eqb _ _ two.before.if1.false) (passed _ (ne_eqb _ _ two.if2.false) (took _ (eq-eqb _ _ due) (took _ (lt-ltb _ _ c.before.if4.true) refl))))
+returns-3 c = sym (passed _ (ne_eqb _ _ c.before.before.before.before.before.if1.false) (passed _ (ne_eqb _ _ c.before.before.before.before.if2.false) (took _ (eq-eqb _ _ c.before.before.before.if3.true) (took _ (lt-ltb _ _ c.before.if4.true) refl))))
 
 returns-4 : tie.Need-returns-4
 unfolding loading_after
-returns-4 c =
-    let three = c.before.before in
-    let two = three.before.before in
-    let due = sym three.before.due-with.ensures ∙ three.if3.true in
-    sym (passed _ (ne_eqb _ _ two.before.if1.false) (passed _ (ne_eqb _ _ two.if2.false) (took _ (eq-eqb _ _ due) (passed _ (le-ltb _ _ c.if4.false) refl))))
+returns-4 c = sym (passed _ (ne_eqb _ _ c.before.before.before.before.if1.false) (passed _ (ne_eqb _ _ c.before.before.before.if2.false) (took _ (eq-eqb _ _ c.before.before.if3.true) (passed _ (le-ltb _ _ c.if4.false) refl))))
 
 returns-5 : tie.Need-returns-5
 unfolding loading_after
-returns-5 c =
-    let two = c.before.before in
-    sym (passed _ (ne_eqb _ _ two.before.if1.false) (passed _ (ne_eqb _ _ two.if2.false) (passed _ (ne_eqb _ _ (λ e. c.if3.false (c.before.due-with.ensures ∙ e))) refl)))
+returns-5 c = sym (passed _ (ne_eqb _ _ c.before.before.if1.false) (passed _ (ne_eqb _ _ c.before.if2.false) (passed _ (ne_eqb _ _ c.if3.false) refl)))
 
 pub loading-after-spec : {M : Type 1} → statement M
-loading-after-spec =
-    tie.close
-    (tie.spec (λ c κs. search rules) returns returns-2 (λ c κs. search rules) (λ c. search rules) returns-3 returns-4 returns-5)
+loading-after-spec = tie.close (tie.spec (λ c κs. search rules) returns returns-2 (λ c. search rules) returns-3 returns-4 returns-5)

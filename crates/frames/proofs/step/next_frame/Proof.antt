@@ -6,17 +6,12 @@ use Rattle.frames.proofs.step.next_frame.Statement.{statement}
 use Rattle.frames.proofs.step.next_frame.Tie as tie
 
 returns : tie.Need-returns
-returns c =
-    let told = c.before.before.before.before in
-    let start = told.before.before.before.before.args in
-    sym (step-kind start.run.now start.at start.s (sym told.before.before.frame.ensures ∙ told.kind.given.1) (omega arith))
+returns c = sym (step-kind c.before.before.before.before.before.before.before.args.run.now c.before.before.before.before.before.before.before.args.at c.before.before.before.before.before.before.before.args.s (sym c.before.before.before.before.before.frame.ensures ∙ c.before.before.before.kind.given.1) (omega arith))
 
 returns-2 : tie.Need-returns-2
 returns-2 c =
-    let told = c.before.before.before.before.before.before in
-    let start = told.before.before.before.before.args in
     let t = simp c.before.body.ensures.0 at c.take-checked.ensures in
-    t ∙ sym (step-take start.run.now start.at start.s (sym told.before.before.frame.ensures ∙ told.kind.given.1) (omega arith))
+    t ∙ sym (step-take c.before.before.before.before.before.before.before.before.before.args.run.now c.before.before.before.before.before.before.before.before.before.args.at c.before.before.before.before.before.before.before.before.before.args.s (sym c.before.before.before.before.before.before.before.frame.ensures ∙ c.before.before.before.before.before.kind.given.1) (omega arith))
 
 returns-3 : tie.Need-returns-3
 returns-3 c = sym (step-refused c.before.before.before.before.before.args.run.now c.before.before.before.before.before.args.at c.before.before.before.before.before.args.s (sym c.before.before.before.frame.ensures ∙ c.before.r.given.1))
@@ -33,7 +28,6 @@ next-frame-spec =
     (tie.spec
     (λ c κs. search rules)
     (λ c. search rules)
-    (λ c κs. search rules)
     (λ c κs. search rules)
     (λ c κs. search rules)
     (λ c κs. search rules)

@@ -15,7 +15,7 @@ slice-relend-prefix-put-reading : tie.Need-slice-relend-prefix-put-reading
 slice-relend-prefix-put-reading c = c.before.before.before.before.before.before.before.before.before.before.requires.sheet
 
 slice-aggregate-put-reading : tie.Need-slice-aggregate-put-reading
-slice-aggregate-put-reading c = let s = c.before.before.before.before.before.before.before.before.before.before.before in sym (length-take-le 118784 s.args.sheet.now s.requires.sheet)
+slice-aggregate-put-reading c = let s = c.before.before.before.before.before.before.before.before.before.before.before in sym (length-take-le 110592 s.args.sheet.now s.requires.sheet)
 
 slice-relend-prefix-put-reading-2 : tie.Need-slice-relend-prefix-put-reading-2
 slice-relend-prefix-put-reading-2 c = c.before.before.before.before.before.before.before.before.before.before.before.requires.ranks
@@ -63,7 +63,7 @@ put-reading-requires : tie.Need-put-reading-requires
 put-reading-requires c κs = ample_fronts _ _ c.before.before.before.before.before.before.before.before.before.before.before.before.before.before.before.before.before.before.before.requires
 
 same_length : tie.Need-same-length
-same_length c = let k = called c in length_front (start k).args.sheet.now k.put-reading.last.1.0 118784 k.put-reading.kept.1.0
+same_length c = let k = called c in length_front (start k).args.sheet.now k.put-reading.last.1.0 110592 k.put-reading.kept.1.0
 
 same-length-2 : tie.Need-same-length-2
 same-length-2 c = let k = called c in length_front (start k).args.ranks.now k.put-reading.last.1.1.0 2048 k.put-reading.kept.1.1.0
@@ -97,7 +97,7 @@ returns c =
     let long = k.put-reading.kept in (
       k.put-reading.ensures,
       record {
-        sheet = rest_stays 118784 s.args.sheet.now ends.1.0 s.pre.sheet long.1.0;
+        sheet = rest_stays 110592 s.args.sheet.now ends.1.0 s.pre.sheet long.1.0;
         ranks = rest_stays 2048 s.args.ranks.now ends.1.1.0 s.pre.ranks long.1.1.0;
         cuts = rest_stays 32768 s.args.cuts.now ends.1.1.1.0 s.pre.cuts long.1.1.1.0;
         cites = rest_stays 65536 s.args.cites.now ends.1.1.1.1.0 s.pre.cites long.1.1.1.1.0;

@@ -16,19 +16,19 @@ use mathlib.Core.List.{[], map}
 use Rattle.settlement.proofs.contracts.run_log.Tie as tie
 
 abbrev invariant-loop : tie.invariant-loop
-invariant-loop sheet ranks cites good z order n counts₀ table₀ cells₀ i₀ counts table cells i = (i ≤ n) × (length counts ≡ length counts₀) × (length table ≡ length table₀) × ((c₀ t₀ : List ℕ) (s : Book) → Holds z c₀ t₀ s counts₀ table₀ cells₀ → Holds z c₀ t₀ (run_all (sheet_in sheet z) s (log_events (rows_in ranks cites good) (map ref_in (take i order)))) counts table cells)
+invariant-loop sheet cites good z order n counts₀ table₀ cells₀ i₀ counts table cells i = (i ≤ n) × (length counts ≡ length counts₀) × (length table ≡ length table₀) × ((c₀ t₀ : List ℕ) (s : Book) → Holds z c₀ t₀ s counts₀ table₀ cells₀ → Holds z c₀ t₀ (run_all (sheet_in sheet z) s (log_events (rows_in [] cites good) (map ref_in (take i order)))) counts table cells)
 
 abbrev decreases-loop : tie.decreases-loop
-decreases-loop sheet ranks cites good z order n counts₀ table₀ cells₀ i₀ counts table cells i = n - i
+decreases-loop sheet cites good z order n counts₀ table₀ cells₀ i₀ counts table cells i = n - i
 
 loop-holds : tie.Need-loop-init invariant-loop decreases-loop
-loop-holds c = (omega arith, refl, refl, λ c₀ t₀ s k. log_start _ c₀ t₀ _ _ _ _ _ (rows_in c.before.before.before.before.before.before.before.args.ranks.now c.before.before.before.before.before.before.before.args.cites.now c.before.before.before.before.before.before.before.args.good.now) c.before.before.before.before.before.before.before.args.order.now k)
+loop-holds c = (omega arith, refl, refl, λ c₀ t₀ s k. log_start _ c₀ t₀ _ _ _ _ _ (rows_in [] c.before.before.before.before.before.before.args.cites.now c.before.before.before.before.before.before.args.good.now) c.before.before.before.before.before.before.args.order.now k)
 
 shared-slice-read-run-block : tie.Need-shared-slice-read-run-block invariant-loop decreases-loop
-shared-slice-read-run-block c = omega (arith, c.before.loop-test.true, c.before.before.before.before.before.before.before.before.before.before.requires.2)
+shared-slice-read-run-block c = omega (arith, c.before.loop-test.true, c.before.before.before.before.before.before.before.before.before.requires.2)
 
 run-block-requires : tie.Need-run-block-requires invariant-loop decreases-loop
-run-block-requires c κs = (omega (arith, c.before.before.before.before.loop.invariant.1, c.before.before.before.before.before.before.before.before.before.before.before.before.requires.0), omega (arith, c.before.before.before.before.loop.invariant.2, c.before.before.before.before.before.before.before.before.before.before.before.before.requires.1))
+run-block-requires c κs = (omega (arith, c.before.before.before.before.loop.invariant.1, c.before.before.before.before.before.before.before.before.before.before.before.requires.0), omega (arith, c.before.before.before.before.loop.invariant.2, c.before.before.before.before.before.before.before.before.before.before.before.requires.1))
 
 add-i : tie.Need-overflow-add-i invariant-loop decreases-loop
 add-i c = omega (arith, c.before.before.before.before.before.before.before.before.loop-test.true)
@@ -37,7 +37,7 @@ loop-less : tie.Need-loop-smaller invariant-loop decreases-loop
 loop-less c = omega (arith, c.before.before.before.before.before.before.before.before.loop-test.true)
 
 loop-again : tie.Need-loop-preserved invariant-loop decreases-loop
-loop-again c = (omega (arith, c.before.before.before.before.before.before.before.before.loop-test.true), search rules, search rules, λ c₀ t₀ s k. log_turn _ c₀ t₀ _ _ _ _ _ (rows_in c.before.before.before.before.before.before.before.before.before.before.before.before.before.before.before.before.before.args.ranks.now c.before.before.before.before.before.before.before.before.before.before.before.before.before.before.before.before.before.args.cites.now c.before.before.before.before.before.before.before.before.before.before.before.before.before.before.before.before.before.args.good.now) c.before.before.before.before.before.before.before.before.before.before.before.before.before.before.before.before.before.args.order.now c.before.before.before.before.before.before.before.before.before.loop.i (omega (arith, c.before.before.before.before.before.before.before.before.loop-test.true, c.before.before.before.before.before.before.before.before.before.before.before.before.before.before.before.before.before.requires.2)) (c.before.before.before.before.run-block.ensures c₀ t₀ _ (c.before.before.before.before.before.before.before.before.before.loop.invariant.3 c₀ t₀ s k)))
+loop-again c = (omega (arith, c.before.before.before.before.before.before.before.before.loop-test.true), search rules, search rules, λ c₀ t₀ s k. log_turn _ c₀ t₀ _ _ _ _ _ (rows_in [] c.before.before.before.before.before.before.before.before.before.before.before.before.before.before.before.before.args.cites.now c.before.before.before.before.before.before.before.before.before.before.before.before.before.before.before.before.args.good.now) c.before.before.before.before.before.before.before.before.before.before.before.before.before.before.before.before.args.order.now c.before.before.before.before.before.before.before.before.before.loop.i (omega (arith, c.before.before.before.before.before.before.before.before.loop-test.true, c.before.before.before.before.before.before.before.before.before.before.before.before.before.before.before.before.requires.2)) (c.before.before.before.before.run-block.ensures c₀ t₀ _ (c.before.before.before.before.before.before.before.before.before.loop.invariant.3 c₀ t₀ s k)))
 
 same_length : tie.Need-same-length invariant-loop decreases-loop
 same_length c = c.before.loop.invariant.1
@@ -46,7 +46,7 @@ same-length-2 : tie.Need-same-length-2 invariant-loop decreases-loop
 same-length-2 c = c.before.loop.invariant.2
 
 returns : tie.Need-returns invariant-loop decreases-loop
-returns c = λ c₀ t₀ s k. log_end _ c₀ t₀ _ _ _ _ _ (rows_in c.before.before.before.before.before.before.before.before.before.args.ranks.now c.before.before.before.before.before.before.before.before.before.args.cites.now c.before.before.before.before.before.before.before.before.before.args.good.now) c.before.before.before.before.before.before.before.before.before.args.order.now _ _ c.before.loop.invariant.0 c.loop-test.false (c.before.loop.invariant.3 c₀ t₀ s k)
+returns c = λ c₀ t₀ s k. log_end _ c₀ t₀ _ _ _ _ _ (rows_in [] c.before.before.before.before.before.before.before.before.args.cites.now c.before.before.before.before.before.before.before.before.args.good.now) c.before.before.before.before.before.before.before.before.args.order.now _ _ c.before.loop.invariant.0 c.loop-test.false (c.before.loop.invariant.3 c₀ t₀ s k)
 
 pub run-log-spec : {M : Type 1} → statement M
 run-log-spec =

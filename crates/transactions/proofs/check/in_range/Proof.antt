@@ -3,8 +3,8 @@ use borrow.Author.Tests.{not-false, not-true}
 use mathlib.Core.Path.{◌∙◌, refl, sym}
 use Rattle.sums.proofs.TestLaws.{passed, took}
 use Rattle.transactions.proofs.CheckLaws.{range_same}
-use Rattle.transactions.proofs.check.lists_in_range.Statement.{statement}
-use Rattle.transactions.proofs.check.lists_in_range.Tie as tie
+use Rattle.transactions.proofs.check.in_range.Statement.{statement}
+use Rattle.transactions.proofs.check.in_range.Tie as tie
 
 returns : tie.Need-returns
 returns c =
@@ -32,8 +32,8 @@ returns-4 c =
     let o = simp (c.before.before.before.before.before.before.before.before.before.before.before.byte-at3.ensures, c.before.operations.ensures) at c.operations-ok.ensures in
     rw (range_same c.before.before.before.before.before.before.before.before.before.before.before.before.before.before.before.args.body.now c.before.before.before.before.before.before.before.before.before.before.before.before.before.before.before.args.a c.before.before.before.before.before.before.before.before.before.before.before.before.before.before.before.args.g) (sym (took _ (sym h ∙ not-false _ c.before.before.before.before.before.before.before.before.if1.false) (took _ (sym d ∙ not-false _ c.before.before.before.before.before.if2.false) (took _ (sym e ∙ not-false _ c.before.before.if3.false) (sym o)))))
 
-pub lists-in-range-spec : {M : Type 1} → statement M
-lists-in-range-spec =
+pub in-range-spec : {M : Type 1} → statement M
+in-range-spec =
     tie.close
     (tie.spec
     (λ c κs. search rules)
