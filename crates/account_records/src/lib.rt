@@ -1,4 +1,7 @@
 // The accounts as records, free and held together.
+
+#![tactic(auto)]
+
 ghost use Rattle.std.specs.Prelude.{[], ◌∷◌};
 ghost use Rattle.account_records.specs.Records.{ReadsRecords};
 ghost use Rattle.admission.specs.Replies.{reply_to};
@@ -14,7 +17,7 @@ mod beside;
 mod fill;
 
 // What an account has: free, and held for transactions that are open.
-#[derive(Drop)]
+#[derive(Clone, Copy)]
 pub struct Account {
     pub free: u64,
     pub held: u64,

@@ -7,7 +7,7 @@ ghost use Rattle.frames.specs.Block.{cites_of};
 use fields::u16_at;
 use frames::block::{cite_at, cites};
 
-#[derive(Drop)]
+#[derive(Clone, Copy)]
 pub struct Citations {
     pub count: u16,
     pub numbers: [u16; 32],

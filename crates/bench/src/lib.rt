@@ -1,4 +1,7 @@
 // For timing from outside: the global log of a table of ranks, and one settlement of a view, on plain numbers and lent slices.
+
+#![tactic(auto)]
+
 ghost use Rattle.std.specs.Prelude.{get_or, length, replicate, take, map, ◌≡◌, ◌/◌};
 ghost use Rattle.bench.specs.Bench.{Timed, ready, rises, rises_at, sizes};
 ghost use Rattle.ordering.specs.Order.{global_log};

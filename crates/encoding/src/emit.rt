@@ -8,7 +8,7 @@ use fields::{front, put_bytes, put_u16, put_u32};
 use refusals::{Checked, Refusal};
 
 // The frame's length in bytes, or why nothing was written.
-#[derive(Drop)]
+#[derive(Clone, Copy)]
 pub enum Written {
     Bytes(usize),
     Refused(Refusal),

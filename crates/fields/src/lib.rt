@@ -1,5 +1,8 @@
 // Fields of a frame: little-endian numbers in the caller's bytes, read and stored, and parts of those bytes. Nothing here
 // is asked of the caller: bytes past the end are read as 0 and are not stored.
+
+#![tactic(auto)]
+
 ghost use Rattle.std.specs.Prelude.{drop, get_or, set, take, ◌≡◌};
 ghost use Rattle.std.proofs.lemmas.List.Edits.{sets};
 ghost use Rattle.fields.specs.Number.{le, store_number};

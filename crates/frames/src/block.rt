@@ -8,7 +8,7 @@ use ordering::{Rank, SequenceNumber};
 use refusals::{Checked, Refusal};
 
 // A block but for its citations, which stay in the body. A sequence number and a rank are different counters.
-#[derive(Drop)]
+#[derive(Clone, Copy)]
 pub struct Block {
     pub instance: u16,
     pub sequence: SequenceNumber,

@@ -6,7 +6,7 @@ use fields::{u16_at, u32_at};
 use refusals::Refusal;
 
 // What stands at an offset. A frame's body is from start to end, and end is the next frame's offset.
-#[derive(Drop)]
+#[derive(Clone, Copy)]
 pub enum Framed {
     Whole { kind: u16, start: usize, end: usize },
     Refused(Refusal),

@@ -6,7 +6,7 @@ use fields::u16_at;
 use refusals::{Checked, Refusal};
 
 // m instances, a accounts, g registers, t transactions.
-#[derive(Drop)]
+#[derive(Clone, Copy)]
 pub struct Header {
     pub m: u16,
     pub a: u16,

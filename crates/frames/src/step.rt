@@ -12,7 +12,7 @@ use transactions::check::check_transaction;
 
 // The sheet so far: the header's numbers; stage 0 before the header, 1 after it, 2 after the balances; how many
 // transactions were taken.
-#[derive(Drop)]
+#[derive(Clone, Copy)]
 pub struct Loading {
     pub m: u16,
     pub a: u16,
@@ -23,7 +23,7 @@ pub struct Loading {
 }
 
 // A frame that was taken, with the sheet then and the next offset.
-#[derive(Drop)]
+#[derive(Clone, Copy)]
 pub enum Step {
     Took(Loading, usize),
     Refused(Refusal),

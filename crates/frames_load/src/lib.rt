@@ -1,4 +1,7 @@
 // The sheet of a run, loaded frame by frame into the caller's cells.
+
+#![tactic(auto)]
+
 ghost use Rattle.std.specs.Prelude.{◌≡◌};
 ghost use Rattle.frames_load.specs.Load.{LoadStep, body_stored, room};
 

@@ -3,7 +3,7 @@ use refusals::Refusal;
 use state::ledger::Ledger;
 
 // NoByte: a call for a frame where no byte is left, which is no offer.
-#[derive(Drop)]
+#[derive(Clone, Copy)]
 pub enum Answer {
     Accepted,
     Refused(Refusal),
@@ -11,7 +11,7 @@ pub enum Answer {
 }
 
 // The answer, and the ledger afterwards.
-#[derive(Drop)]
+#[derive(Clone, Copy)]
 pub struct Offered {
     pub answer: Answer,
     pub ledger: Ledger,

@@ -1,4 +1,7 @@
 // Offers of blocks, as values and as frames.
+
+#![tactic(auto)]
+
 pub mod answer;
 mod answering;
 mod frame_verdict;

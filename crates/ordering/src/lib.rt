@@ -1,4 +1,7 @@
 // The order of blocks by (rank, instance): the bar and the global log.
+
+#![tactic(auto)]
+
 pub mod pair;
 
 ghost use Rattle.std.specs.Prelude.{◌≡◌, ◌+◌, ◌<◌, ◌≤◌, min, set, length, map};
@@ -10,10 +13,10 @@ ghost use Rattle.ordering.specs.Table.{rank_in, count_in, block_id, Ordered, cli
 
 use pair::{Pair, comes_first, first_of, pair_above, pair_of};
 
-#[derive(Drop)]
+#[derive(Clone, Copy)]
 pub struct Rank(pub u32);
 
-#[derive(Drop)]
+#[derive(Clone, Copy)]
 pub struct SequenceNumber(pub u16);
 
 // Four instances are a group. The merge keeps the first pair of each of the four groups, so that behind a block its own group alone is looked through.

@@ -7,14 +7,14 @@ use crate::Rank;
 // The rank and the instance of a block, or those of the bar. The bar's rank is a last rank + 1, so it may be 2^32, which no `Rank` is: hence 64 bits.
 // The instance has as many, so that a pair has no gap and stays in registers.
 // Of `pair_of` and `pair_above` alone is a pair to be had, and these take a `Rank`: there is none of a sequence number.
-#[derive(Drop)]
+#[derive(Clone, Copy)]
 pub struct Pair {
     rank: u64,
     pub instance: u64,
 }
 
 // What is said of the first of two pairs.
-#[derive(Drop)]
+#[derive(Clone, Copy)]
 pub enum Comparison {
     ComesFirst,
     ComesAfter,

@@ -1,1 +1,3 @@
 // The plain ledger of document 01: definitions and theorems, no code.
+
+#![tactic(auto)]

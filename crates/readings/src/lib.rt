@@ -1,4 +1,7 @@
 // The readings of the full view: accounts, registers, settlements, share and log.
+
+#![tactic(auto)]
+
 pub mod accounts;
 mod full;
 pub mod log;

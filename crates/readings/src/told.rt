@@ -2,7 +2,7 @@
 use refusals::Checked;
 
 // The answer, and the number: 0 where the call was refused.
-#[derive(Drop)]
+#[derive(Clone, Copy)]
 pub struct Told {
     pub answer: Checked,
     pub value: u32,

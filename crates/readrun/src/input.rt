@@ -4,7 +4,7 @@ ghost use Rattle.std.specs.Prelude.{◌≤◌, length};
 use crate::progress::{CALLS, Moved, Progress, has_failed, has_more, is_done, progress_of};
 
 // How many bytes of the buffer were read, and whether the input was read to its end.
-#[derive(Drop)]
+#[derive(Clone, Copy)]
 pub struct Input {
     pub length: usize,
     pub whole: bool,

@@ -1,5 +1,8 @@
 // Reads a run from standard input, and writes its reading to standard output (document 01, "One reading, whole").
 // A run that cannot be read to its end has no reading: nothing is written to standard output then, and a line to standard error.
+
+#![tactic(auto)]
+
 mod input;
 mod output;
 mod progress;

@@ -5,7 +5,7 @@
 pub const CALLS: u32 = 1048576;
 
 // More can follow, nothing more does, or the call failed.
-#[derive(Drop)]
+#[derive(Clone, Copy)]
 pub enum Progress {
     More,
     Done,
@@ -13,7 +13,7 @@ pub enum Progress {
 }
 
 // How many bytes of a buffer were read or written, and what follows.
-#[derive(Drop)]
+#[derive(Clone, Copy)]
 pub struct Moved {
     pub length: usize,
     pub progress: Progress,

@@ -1,5 +1,8 @@
 // Prints the account lines of a run's reading from a lent list of records, then how many of the places after them kept what they had.
 // The run stands on standard input. A reading that a refusal ends is that refusal's line, and a long run is the line `long`.
+
+#![tactic(auto)]
+
 ghost use Rattle.std.specs.Prelude.{◌≤◌};
 
 use crate::lent::{is_blank, records_of};

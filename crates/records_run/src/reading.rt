@@ -10,7 +10,7 @@ use state::load::{Taken, load_sheet};
 const CALLS: u32 = 65536;
 
 // How far a run has been read; a refusal has ended the reading.
-#[derive(Drop)]
+#[derive(Clone, Copy)]
 pub struct Reached {
     pub answer: Checked,
     pub ledger: Ledger,

@@ -1,9 +1,12 @@
 // The refusals of document 01 ("What the caller gets when a slip or block is turned away"), in the order of their numbers,
 // each with what its place is.
+
+#![tactic(auto)]
+
 ghost use Rattle.std.specs.Prelude.{◌≡◌};
 ghost use Rattle.refusals.specs.Refusals.{refusal_number, refusal_place};
 
-#[derive(Drop)]
+#[derive(Clone, Copy)]
 pub enum Refusal {
     // 1 to 7: the frame's offset
     Short(usize),
@@ -33,7 +36,7 @@ pub enum Refusal {
 }
 
 // What a check of values or bytes says.
-#[derive(Drop)]
+#[derive(Clone, Copy)]
 pub enum Checked {
     Fine,
     Refused(Refusal),

@@ -8,7 +8,7 @@ use offers::offer::offer_frame;
 use state::ledger::Ledger;
 
 // The ledger afterwards, the place after the last line, and whether the output ends there.
-#[derive(Drop)]
+#[derive(Clone, Copy)]
 pub struct Blocks {
     pub ledger: Ledger,
     pub place: usize,

@@ -6,7 +6,7 @@ use state::ledger::{Ledger, fresh, is_complete};
 use state::load::{Taken, load_sheet};
 
 // The ledger with its sheet and where the blocks begin; or the refusal that ends the reading.
-#[derive(Drop)]
+#[derive(Clone, Copy)]
 pub struct Opened {
     pub answer: Checked,
     pub ledger: Ledger,

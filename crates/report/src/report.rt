@@ -12,7 +12,7 @@ use refusals::{Checked, Refusal};
 use state::lengths::{Lengths, check_lengths};
 
 // The answer, and the place after the text.
-#[derive(Drop)]
+#[derive(Clone, Copy)]
 pub struct Reported {
     pub answer: Checked,
     pub length: usize,

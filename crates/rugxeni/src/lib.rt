@@ -1,4 +1,7 @@
 // The boundary of the static library: the ledger's calls over numbers and lent slices, for programs in Rust or C.
+
+#![tactic(auto)]
+
 pub mod accounts;
 pub mod framing;
 pub mod loading;

@@ -10,7 +10,7 @@ use fields::byte_at;
 use transactions::lists::{code_at, operations, register_at, value_at};
 
 // What a run of operations leaves.
-#[derive(Drop)]
+#[derive(Clone, Copy)]
 pub struct Ran {
     pub passes: bool,
     pub registers: [u32; 64],

@@ -9,7 +9,7 @@ use fields::{byte_at, front, rest, u64_at};
 use transactions::lists::{account_at, amount_at, credits, debits};
 
 // The sizes of a sheet.
-#[derive(Drop)]
+#[derive(Clone, Copy)]
 pub struct Sizes {
     pub m: u16,
     pub a: u16,

@@ -6,7 +6,7 @@ use frames::step::{Loading, kind_due};
 use sheets::sheet::Sizes;
 
 // The sheet so far and how many blocks of each instance are accepted. All else lies in the caller's buffers.
-#[derive(Drop)]
+#[derive(Clone, Copy)]
 pub struct Ledger {
     pub loading: Loading,
     pub heights: [u16; 16],

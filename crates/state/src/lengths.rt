@@ -7,7 +7,7 @@ ghost use Rattle.plain.specs.Plain.{lent_answer};
 use crate::ledger::Ledger;
 use refusals::{Checked, Refusal};
 
-#[derive(Drop)]
+#[derive(Clone, Copy)]
 pub struct Lengths {
     pub sheet: usize,
     pub ranks: usize,

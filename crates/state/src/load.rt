@@ -7,7 +7,7 @@ use frames_load::load;
 use refusals::Refusal;
 
 // The answer to a call: where the next frame begins; why the frame was turned away; or that the sheet is complete, so that nothing is left to load.
-#[derive(Drop)]
+#[derive(Clone, Copy)]
 pub enum Taken {
     Next(usize),
     Refused(Refusal),
@@ -15,7 +15,7 @@ pub enum Taken {
 }
 
 // The answer, and the ledger afterwards.
-#[derive(Drop)]
+#[derive(Clone, Copy)]
 pub struct Loaded {
     pub answer: Taken,
     pub ledger: Ledger,

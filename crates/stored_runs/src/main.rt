@@ -3,6 +3,9 @@
 //
 // `crosscheck stored` (tests/) writes the files. An entry is the run's length and the text's in four bytes each, the run,
 // the text.
+
+#![tactic(auto)]
+
 mod counts;
 mod texts;
 
@@ -14,7 +17,7 @@ use report::report::report_run;
 use texts::same;
 
 // What is found where the next entry would be.
-#[derive(Drop)]
+#[derive(Clone, Copy)]
 enum Entry {
     End,
     Agrees,

@@ -1,4 +1,7 @@
 // The frame of a transaction (document 01, kind 3), written into the caller's buffer.
+
+#![tactic(auto)]
+
 mod lists;
 
 ghost use Rattle.std.specs.Prelude.{◌*◌, ◌+◌, ◌≤◌, length, take, [], ◌∷◌, ◌≡◌};
@@ -18,7 +21,7 @@ use refusals::{Checked, Refusal};
 use transactions::check::check_transaction;
 
 // The bytes before the lists: type 0 payment or 1 contract, and how long each list is.
-#[derive(Drop)]
+#[derive(Clone, Copy)]
 pub struct Counts {
     pub kind: u8,
     pub debits: u8,
