@@ -6,7 +6,7 @@ use Rattle.sums.proofs.TestLaws.{given_true, given_false}
 use Rattle.sheets.proofs.parts.first_at.Goals as goal
 
 pub returns-then-any_home : goal.returns-then-any_home
-returns-then-any_home c = (sym (given_false _ _ (sym (first_at _ _ _ _ _ _ c.account_at.ensures c.Home_of.ensures c.any_home.ensures) ∙ ap not c.if-any_home.true)), omega arith)
+returns-then-any_home c = (sym (given_false _ _ (sym (first_at _ _ _ _ _ _ c.account_at.ensures c.home_of-h.ensures c.any_home.ensures) ∙ ap not c.if-any_home.true)), omega arith)
 
 pub returns-else-any_home : goal.returns-else-any_home
-returns-else-any_home c = (sym (given_true _ _ (sym (first_at _ _ _ _ _ _ c.account_at.ensures c.Home_of.ensures c.any_home.ensures) ∙ ap not c.if-any_home.false)), omega arith)
+returns-else-any_home c = (sym (given_true _ _ (sym (first_at _ _ _ _ _ _ c.account_at.ensures c.home_of-h.ensures c.any_home.ensures) ∙ ap not c.if-any_home.false)), omega arith)
