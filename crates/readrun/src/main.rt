@@ -13,7 +13,7 @@ use output::write_output;
 use report::report::report_run;
 
 // Whether the reading was written, all of it.
-fn write_reading(run: &[u8]) -> bool {
+fn write_reading(rt: &HostRuntime, run: &[u8]) -> bool {
     let mut sheet = [0u8; 110592];
     let mut ranks = [0u32; 2048];
     let mut cuts = [0u16; 32768];
@@ -35,22 +35,24 @@ fn write_reading(run: &[u8]) -> bool {
         &mut order,
         &mut out,
     );
-    write_output(front(&out, done.length))
+    write_output(rt, &mut rt.stdout(), front(&out, done.length))
+}
+
+// Where standard error cannot be written either, nobody is told.
+fn say(rt: &impl Eprint, what: &str) {
+    let _ = eprintln!(rt; "readrun: {what}");
 }
 
 // One byte more than a run may have: where it is there the run is long, whatever follows.
-fn main() {
+fn main(rt: HostRuntime) {
     let mut space = [0u8; 65537];
-    let input = read_input(&mut space);
+    let input = read_input(&mut rt.stdin(), &mut space);
     if !input.whole {
-        io::write_all(libc::STDERR_FILENO, b"readrun: the run could not be read\n");
+        say(&rt, "the run could not be read");
         return;
     }
     let n = input.length;
-    if !write_reading(front(&space, n)) {
-        io::write_all(
-            libc::STDERR_FILENO,
-            b"readrun: the reading could not be written\n",
-        );
+    if !write_reading(&rt, front(&space, n)) {
+        say(&rt, "the reading could not be written");
     }
 }

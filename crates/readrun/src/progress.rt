@@ -1,4 +1,6 @@
 // How far a call that reads or writes has come.
+use std::io;
+use std::io::ErrorKind;
 
 // A proved loop has to end, and nothing says that an input does. So many calls are enough for a run, or its reading, that goes
 // byte by byte.
@@ -20,17 +22,17 @@ pub struct Moved {
 }
 
 // What a call's answer means. One that a signal interrupted before it moved a byte did not fail: it is made again.
-pub fn progress_of(answer: isize) -> Progress {
-    if answer > 0 {
-        return Progress::More;
+pub fn progress_of(answer: io::Result<usize>) -> Progress {
+    match answer {
+        Ok(0) => Progress::Done,
+        Ok(_) => Progress::More,
+        Err(e) => {
+            if e.kind() == ErrorKind::Interrupted {
+                return Progress::More;
+            }
+            Progress::Failed
+        }
     }
-    if answer == 0 {
-        return Progress::Done;
-    }
-    if os::errno() == libc::EINTR {
-        return Progress::More;
-    }
-    Progress::Failed
 }
 
 pub fn has_more(progress: Progress) -> bool {
