@@ -1,7 +1,7 @@
 // Standard output, written whole or not: a text that is cut off is no reading.
 ghost use Rattle.std.specs.Prelude.{◌≤◌, length};
 
-use crate::progress::{CALLS, Moved, Progress, has_more, progress_of};
+use crate::progress::{CALLS, Moved, Progress, has_more, is_unread, progress_of};
 use std::fs;
 use std::fs::OpenFile;
 use std::io::{ErrorKind, Write};
@@ -9,6 +9,14 @@ use std::rt::Files;
 
 // Standard output, as a file.
 const OUTPUT: &str = "/proc/self/fd/1";
+
+// All of the text was written; nobody reads it; or it could not be written.
+#[derive(Clone, Copy)]
+pub enum Written {
+    Whole,
+    Unread,
+    Failed,
+}
 
 // One write, behind the first n bytes.
 fn write_more<W: Write>(output: &mut W, text: &[u8], n: usize) -> Moved
@@ -26,8 +34,8 @@ fn write_more<W: Write>(output: &mut W, text: &[u8], n: usize) -> Moved
     }
 }
 
-// Whether all of the text was written.
-fn write_text<W: Write>(output: &mut W, text: &[u8]) -> bool {
+// Writes until all of the text is written or a write fails.
+fn write_text<W: Write>(output: &mut W, text: &[u8]) -> Written {
     let mut n = 0usize;
     let mut progress = Progress::More;
     let mut calls = CALLS;
@@ -37,7 +45,13 @@ fn write_text<W: Write>(output: &mut W, text: &[u8]) -> bool {
         progress = moved.progress;
         calls -= 1;
     }
-    n == text.len()
+    if n == text.len() {
+        return Written::Whole;
+    }
+    if is_unread(progress) {
+        return Written::Unread;
+    }
+    Written::Failed
 }
 
 // A file system may say only late that it had no room, so a file is asked to store what was written. Where standard output is no
@@ -58,7 +72,17 @@ fn is_stored<R: Files>(rt: &R) -> bool {
     }
 }
 
-// Whether all of the text was written, and is stored.
-pub fn write_output<R: Files, W: Write>(rt: &R, output: &mut W, text: &[u8]) -> bool {
-    write_text(output, text) && is_stored(rt)
+// The text counts as written where it is stored.
+pub fn write_output<R: Files, W: Write>(rt: &R, output: &mut W, text: &[u8]) -> Written {
+    let written = write_text(output, text);
+    match written {
+        Written::Whole => {
+            if is_stored(rt) {
+                return Written::Whole;
+            }
+            Written::Failed
+        }
+        Written::Unread => Written::Unread,
+        Written::Failed => Written::Failed,
+    }
 }

@@ -6,11 +6,12 @@ use std::io::ErrorKind;
 // byte by byte.
 pub const CALLS: u32 = 1048576;
 
-// More can follow, nothing more does, or the call failed.
+// More can follow, nothing more does, nobody reads what is written, or the call failed otherwise.
 #[derive(Clone, Copy)]
 pub enum Progress {
     More,
     Done,
+    Unread,
     Failed,
 }
 
@@ -21,17 +22,21 @@ pub struct Moved {
     pub progress: Progress,
 }
 
-// What a call's answer means. One that a signal interrupted before it moved a byte did not fail: it is made again.
+// One that a signal interrupted before it moved a byte did not fail: it is made again.
+fn after_error(kind: ErrorKind) -> Progress {
+    match kind {
+        ErrorKind::Interrupted => Progress::More,
+        ErrorKind::BrokenPipe => Progress::Unread,
+        _ => Progress::Failed,
+    }
+}
+
+// What a call's answer means.
 pub fn progress_of(answer: io::Result<usize>) -> Progress {
     match answer {
         Ok(0) => Progress::Done,
         Ok(_) => Progress::More,
-        Err(e) => {
-            if e.kind() == ErrorKind::Interrupted {
-                return Progress::More;
-            }
-            Progress::Failed
-        }
+        Err(e) => after_error(e.kind()),
     }
 }
 
@@ -39,6 +44,7 @@ pub fn has_more(progress: Progress) -> bool {
     match progress {
         Progress::More => true,
         Progress::Done => false,
+        Progress::Unread => false,
         Progress::Failed => false,
     }
 }
@@ -47,6 +53,7 @@ pub fn has_failed(progress: Progress) -> bool {
     match progress {
         Progress::More => false,
         Progress::Done => false,
+        Progress::Unread => true,
         Progress::Failed => true,
     }
 }
@@ -55,6 +62,16 @@ pub fn is_done(progress: Progress) -> bool {
     match progress {
         Progress::More => false,
         Progress::Done => true,
+        Progress::Unread => false,
+        Progress::Failed => false,
+    }
+}
+
+pub fn is_unread(progress: Progress) -> bool {
+    match progress {
+        Progress::More => false,
+        Progress::Done => false,
+        Progress::Unread => true,
         Progress::Failed => false,
     }
 }

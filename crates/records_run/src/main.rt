@@ -75,7 +75,14 @@ fn print_records(rt: &impl Print, records: [Account; 1024], a: u16) {
     print_text(rt, "\n");
 }
 
-fn print_reading(rt: &impl Print, ledger: Ledger, sheet: &[u8], ranks: &[u32], cites: &[u16], good: &[u8]) {
+fn print_reading(
+    rt: &impl Print,
+    ledger: Ledger,
+    sheet: &[u8],
+    ranks: &[u32],
+    cites: &[u16],
+    good: &[u8],
+) {
     let mut counts = [0u32; 2048];
     let mut table = [0u8; 1024];
     let mut order = [0u16; 2048];

@@ -2,8 +2,8 @@
 use Rattle.std.proofs.Common.{◌-◌, ◌≤◌}
 use Rattle.records_run.proofs.kept.Given as goal
 
-abbrev pub invariant-loop-n : goal.invariant-loop-n
-invariant-loop-n l = l.n ≤ l.k
+abbrev pub invariant-loop-k : goal.invariant-loop-k
+invariant-loop-k l = l.n ≤ l.k
 
-abbrev pub decreases-loop-n : goal.decreases-loop-n
-decreases-loop-n l = 1024 - l.k
+abbrev pub decreases-loop-k : goal.decreases-loop-k
+decreases-loop-k l = 1024 - l.k
