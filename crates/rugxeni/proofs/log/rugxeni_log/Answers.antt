@@ -1,0 +1,9 @@
+use Rattle.rugxeni.proofs.CallLaws.{read_short, read_done}
+use Rattle.admission.specs.Replies.{reply_to}
+use Rattle.rugxeni.proofs.log.rugxeni_log.Goals as goal
+
+pub returns-then-numbers-lt22 : goal.returns-then-numbers-lt22
+returns-then-numbers-lt22 c = read_short c.if-numbers-lt22.true c.say_short.ensures
+
+pub returns : goal.returns
+returns c = read_done c.if-numbers-lt22.false c.ledger_in.result (reply_to c.log-done.result.answer) c.log-done.result.value c.ledger_in.ensures c.log-done.ensures c.say_reading.ensures
