@@ -152,7 +152,7 @@ def reached(roots, files):
 
 def main(word):
     files, before, structs = Files(), set(), set()
-    order = [l.split(":")[0] for l in open("crates.txt")]
+    order = [l.split(":")[0].split()[0] for l in open("crates.txt")]
     lines_of = lambda items: sum(len(files.get(c, p)[0][n]) for c, p, n in items)
     out = ["<!-- written by `python3 docs/src/trusted_text.py --write`; the gate compares -->", "# The definitions that promises rest on", ""]
     out += ["| Rests on | Definitions | Lines | Of these not in a row above |", "|---|---|---|---|"]

@@ -56,7 +56,7 @@ def make_room(room, below):
 
 def difference(room, _crate):
     """A row that does not come out with the changed definition; empty where all do."""
-    done = subprocess.run(["rt", "check"], cwd=room, stdin=subprocess.DEVNULL, capture_output=True, text=True)
+    done = subprocess.run(["rt", "all", "check"], cwd=room, stdin=subprocess.DEVNULL, capture_output=True, text=True)
     if done.returncode == 0:
         return ""
     said = done.stdout + done.stderr
