@@ -69,7 +69,7 @@ def add_copy(room, crate, number, change):
         sys.exit(f"{crate}/{change.label}: {wrong}")
     for path in glob.glob(f"{folder}/src/**/*.rt", recursive=True):
         # two copies would give C the same name
-        write(path, wrong_engines.read(path).replace("#[unsafe(no_mangle)]\n", ""))
+        write(path, wrong_engines.read(path).replace('#[unsafe(no_mangle)]\npub extern "C" fn', "pub fn"))
 
 
 def make_room(room, crate, name, below, changes):
