@@ -91,8 +91,8 @@ class Rooms:
         finally:
             self.free.put(room)
 
-    def unchanged(self, crate):
-        return self.trial(lambda room: self.kind.difference(room, crate))
+    def unchanged(self):
+        return self.trial(lambda room: self.kind.difference(room, None))
 
     def seen(self, change):
         return self.trial(lambda room: seen(self.kind, room, *change))
@@ -121,11 +121,12 @@ def bodies_amiss(folder, below, crates, right, wrong):
     return found
 
 
-def definitions_amiss(folder, below, crates, right, wrong):
+def definitions_amiss(folder, below, _crates, right, wrong):
     """The same of the wrong definitions."""
     rooms = Rooms(folder, definitions, below)
+    words = rooms.unchanged()
+    found = [f"with nothing changed: {words}"] if words else []
     with concurrent.futures.ThreadPoolExecutor(ROOMS) as pool:
-        found = [f"{crate}, with nothing changed: {words}" for crate, words in zip(crates, pool.map(rooms.unchanged, crates[:1])) if words]
         found += [f"{crate}/{engine.label}, which is right: {words}" for (crate, engine), words in zip(right, pool.map(rooms.seen, right)) if words]
         shown = list(pool.map(rooms.seen, wrong))
     return found + [f"{crate}/{engine.label}: nothing shows that it is wrong" for (crate, engine), words in zip(wrong, shown) if not words]
