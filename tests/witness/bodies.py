@@ -22,7 +22,7 @@ import wrong_engines
 HERE = os.path.dirname(os.path.abspath(__file__))
 LIBRARY = "expectations"
 PROGRAM = "witness"
-COPIES = 16  # in one build
+COPIES = 32  # in one build
 STORED = "stored_runs"
 # of the groups that the program reads, one as it is, and one whose readings are wrong here
 RIGHT, WRONG = "edges", "generated"

@@ -24,7 +24,7 @@ import bodies  # noqa: E402
 import definitions  # noqa: E402
 import wrong_engines  # noqa: E402
 
-ROOMS = 2
+ROOMS = 3 if len(os.sched_getaffinity(0)) > 2 else 2
 CLAIM = "specs/Claim.antt"  # what is claimed of a crate's rules; no rule rests on it
 
 
