@@ -16,7 +16,8 @@ such a body that one error does not count, neither way.
 A goal to which no file has an answer is tried by `search`. It is a fact, too, where that finds no proof ("it is not proved that ..", and the function's line
 names the goal). Some of these lines say that the facts known there allow values at which the goal is false: VALUES, the stronger word, which a body of another
 shape needs where no file has anything of its function's proof, since a search that closes the right body says of another shape nothing. A loop that asks for
-another measure or invariant is shape.
+another measure or invariant is shape. A goal's name has the numbers that a test compares with (`returns-else-at-lt16`): an answer to a goal that is gone is open
+where the prover asks for one of the same name but for its numbers, and else shape.
 """
 import re
 
@@ -28,7 +29,7 @@ FACTS = [
     re.compile(r"`grind` found no proof"),
     re.compile(r"`search`: no proof of "),
     # a proof of one proposition where another is asked for
-    re.compile(r"the two (types|sides) (first differ|differ only) where"),
+    re.compile(r"the two (types|sides) ((first differ|differ only) where|agree until one ends)"),
     re.compile(r"the two types are `"),
     re.compile(r"^expected type `"),
     re.compile(r"≟ .*does not hold", re.S),
@@ -49,6 +50,9 @@ MISMATCH = FACTS[4:8]
 UNCLOSED = "`search` did not prove"
 GOAL = re.compile(r"note: src/\S+:\d+:\d+: (?:it is )?not proved that .*\(`([^`]+)`\)(.*)")
 VALUES = "allow values at which this goal is false"
+# an answer whose goal is gone, and the goals that there are
+GONE = re.compile(r"module `[^`]*\.Goals` has no `([^`]+)` that can be named")
+ASKED = re.compile(r"^help: `Goals` has no `([^`]+)`; rattle asks for (.*?)(?:; |$)", re.M)
 UNCHOSEN = re.compile(r"\ban? (measure|invariant)\b|\binvariants in ")
 PUT_TOGETHER = re.compile(r"^[^+].*-spec$")
 CARRIED_ON = re.compile(r"^same-length(-\d+)?$")
@@ -69,12 +73,17 @@ def verdict(declaration, words):
     return "open" if any(kind.search(words) for kind in OPEN) else "shape"
 
 
+def but_for_numbers(name):
+    return re.sub(r"\d+", "0", name)
+
+
 class Log:
     """The errors of one check, by file, and the goals of functions to which no answer was found."""
 
     def __init__(self, crate, text):
         # what the prover found to hold after all, if only a definition were opened
         self.held = set(re.findall(r"^(?:\./)?(proofs/\S+?\.antt):\d+:\d+: note: a trial run of this declaration was admitted.* \(in `([^`]*)`\)", text, re.M))
+        self.renamed = {gone for gone, asked in ASKED.findall(text) if but_for_numbers(gone) in map(but_for_numbers, re.findall(r"`([^`]+)`", asked))}
         self.errors, self.unproved, at, goals = [], {}, None, []
         for line in text.splitlines():
             m = re.match(r"(?:\./)?((?:proofs|src|specs)/\S+?\.\w+):\d+:\d+: error(?:\[[\w-]+\])?: (?:`([^`]*)`: )?(.*)", line)
@@ -108,8 +117,14 @@ class Log:
         *module, names = m[1].split("/")
         return {(*module, name) for name in names.split("+") if name}
 
+    def verdict(self, file, declaration, words):
+        gone = GONE.search(words)
+        if gone and gone[1] in self.renamed:
+            return "open"
+        return "shape" if (file, declaration) in self.held else verdict(declaration, words)
+
     def words_of(self, chosen):
-        return {"shape" if (file, declaration) in self.held else verdict(declaration, words) for file, declaration, words in chosen}
+        return {self.verdict(*error) for error in chosen}
 
     def facts(self):
         """The file and the declaration of each error that is a fact."""
@@ -170,6 +185,7 @@ SAMPLES = [
     ("returns", "`search`: no proof of `b < a` was found. `grind`: the goal does not follow. The hypotheses hold, and the goal fails at `a` = `0`", "fact"),
     ("returns", "`grind`: the goal does not follow. The hypotheses hold, and the goal fails at `a` = `0`. The part of the goal that is meant is", "fact"),
     ("returns", "as printed, the two types differ only where one has `twice c.args.x` (expected)\n  and the other has `c.args.x` (found)", "fact"),
+    ("rules", "as printed, the two types agree until one ends (expected), and the other goes on with `+ 1` (found)", "fact"),
     ("by-term", "expected type `a ≡ c`, but this has type `a ≡ b`", "fact"),
     ("returns", "`rw`: no occurrence of the path's left endpoint in the goal: write the family yourself", "open"),
     (None, "1 declaration that depends on `by-term`, which was rejected, was not checked: follows", "open"),
@@ -215,6 +231,14 @@ fn c::near: no proof: expected answers in ./proofs/near/Answers.antt; `search` d
 fn c::turn: no proof: expected a measure in ./proofs/turn/Invariants.antt
 fn c::next: no proof: expected `next-spec` in ./proofs/next/Proof.antt; it calls `c::low`, which is not proved
 fn c::last: not proved; it calls `c::low`, which is not proved
+./proofs/count/Answers.antt:21:28: error: `returns-lt16`: `goal.returns-lt16`: module `Rattle.c.proofs.count.Goals` has no `returns-lt16` that can be named from here
+note: src/lib.rt:38:1: it is not proved that what the function ensures holds when it returns (`returns-lt15`); `search` gave up at one of its limits
+fn c::count: not proved
+help: `Goals` has no `returns-lt16`; rattle asks for `returns-lt15`, `bounds`; a `use` line of it can name these places: `Then-lt15`, `Start`
+./proofs/other/Answers.antt:21:28: error: `returns-le3`: `goal.returns-le3`: module `Rattle.c.proofs.other.Goals` has no `returns-le3` that can be named from here
+note: src/lib.rt:38:1: it is not proved that what the function ensures holds when it returns (`returns-ge3`); `search` gave up at one of its limits
+fn c::other: not proved
+help: `Goals` has no `returns-le3`; rattle asks for `returns-ge3`; a `use` line of it can name these places: `Start`
 note: `bounds-out-k` of proofs/low/Answers.antt may be false: the known facts allow `c.loop-k.k` = `0`
 """
 # Where the text cannot be read or compiled there is nothing else.
@@ -227,7 +251,7 @@ def selftest():
     wrong = [f"{d}: {w.splitlines()[0]}: {verdict(d, w)}, and it is to be {due}" for d, w, due in SAMPLES if verdict(d, w) != due]
     log = Log("c", SAMPLE_LOG)
     bad = Log("c", SAMPLE_BAD)
-    put, get, add, low, near = ("bytes", "put"), ("bytes", "get"), ("bytes", "add"), ("low",), ("near",)
+    put, get, add, low, near, count, other = ("bytes", "put"), ("bytes", "get"), ("bytes", "add"), ("low",), ("near",), ("count",), ("other",)
     asked = [
         (log.refused_in(put), ""),
         (log.refused_in(get), "the proof of bytes::get no longer fits the code's shape"),
@@ -241,6 +265,8 @@ def selftest():
         (log.refused_in(near, values=True), "no fact fails in near"),
         (log.refused_in(("turn",)), "the proof of turn no longer fits the code's shape"),
         (log.refused_in(("last",)), "no fact fails in last"),
+        (log.refused_in(count), ""),
+        (log.refused_in(other), "the proof of other no longer fits the code's shape"),
         (bad.refused_in(low), "no fact fails in low"),
         (bad.refused_anywhere(), "no fact fails"),
         ([where for where, _ in bad.disturbed({low})], ["src/lib.rt `None`"]),
@@ -251,8 +277,8 @@ def selftest():
         (log.refused_law("open"), "the proof of open no longer fits"),
         (log.refused_anywhere(), ""),
         (Log("c", "\n".join(line for line in SAMPLE_LOG.splitlines() if "Clauses" in line)).refused_anywhere(), "no fact fails"),
-        ([where for where, _ in log.disturbed({put, get, add})], ["proofs/Clauses.antt `open`", "proofs/Clauses.antt `law`", "low", "near"]),
-        ([where for where, _ in log.disturbed({get, add, low, near})],
+        ([where for where, _ in log.disturbed({put, get, add, count, other})], ["proofs/Clauses.antt `open`", "proofs/Clauses.antt `law`", "low", "near"]),
+        ([where for where, _ in log.disturbed({get, add, low, near, count, other})],
          ["proofs/bytes/put/Answers.antt `returns`", "proofs/Clauses.antt `open`", "proofs/Clauses.antt `law`"]),
     ]
     wrong += [f"{got!r}, and it is to be {due!r}" for got, due in asked if got != due]
