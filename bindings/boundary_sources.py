@@ -14,7 +14,7 @@ ORDER = ["framing", "loading", "offering", "log", "settlements", "accounts", "re
 Call = collections.namedtuple("Call", "name comment parameters")
 Parameter = collections.namedtuple("Parameter", "name element is_slice is_written least")
 LEADING = re.compile(r"(?://.*\n)*")
-EXPORT = re.compile(r'((?:^//[^\n]*\n)*)^#\[no_mangle\]\npub extern "C" fn (\w+)\(([^)]*)\)([^{\n]*)\n', re.M)
+EXPORT = re.compile(r'((?:^//[^\n]*\n)*)^#\[unsafe\(no_mangle\)\]\npub extern "C" fn (\w+)\(([^)]*)\)([^{\n]*)\n', re.M)
 TYPE = re.compile(r"(?P<slice>&(?P<written>mut )?\[)?(?P<element>u8|u16|u32|u64|usize)(?(slice)\])")
 
 

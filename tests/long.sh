@@ -16,9 +16,9 @@ build() { cargo build --quiet --locked --offline --release --manifest-path "$1/C
 
 echo "proving and building what is compared; what has not changed is passed over" >&2
 mkdir -p target/compare
-rt check readrun records_run >target/compare/readrun.log
+for name in readrun records_run; do bash tests/program.sh "$name" >target/compare/readrun.log 2>&1; done
 if [ "$library" -gt 0 ]; then
-    rt staticlib rugxeni >target/compare/staticlib.log 2>&1
+    bash tests/staticlib.sh rugxeni >target/compare/staticlib.log 2>&1
     build tests/library
 fi
 build tests

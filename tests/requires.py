@@ -33,7 +33,7 @@ def main():
         for module, path in public_files(root.split("/")[1]):
             for name, contract in SIGNATURE.findall(open(path, encoding="utf-8").read()):
                 seen += 1
-                if re.search(r"^ +requires \{", contract, re.M):
+                if re.search(r"^ +requires\*?(?: \w+)? \{", contract, re.M):
                     found.add(f"{module}::{name}")
     for name in sorted(found - ALLOWED):
         print(f"{name} asks something of its caller, and it is not one of those that may")

@@ -12,7 +12,8 @@ Each begins with a line that says what is right, and then has its replacements:
     wrong_engines.py table            each public function, each clause and their engines; fails where a function has fewer than two in the gate or
                                       a clause has none. `table --write` writes docs/generated/wrong-engines.md, `table --check` compares it
     wrong_engines.py selftest         the rule of tests/verdicts.py on sample errors
-    wrong_engines.py refused [DIR]    reads the logs that the prover left in DIR (target/must-fail); see tests/verdicts.py for what counts.
+    wrong_engines.py refused [NAME...] tries the edits of all crates, or of the named ones, and reads what the prover says of each engine
+                                      (tests/tries.py); see tests/verdicts.py for what counts. With --more it tries those of must-fail-more.
                                       That they are wrong and not only refused is for tests/witness/ to see
 """
 import collections
@@ -22,13 +23,15 @@ import re
 import sys
 
 import generated
+import tries
 import verdicts
 
-FUNCTION = re.compile(r'^ *(?:#\[no_mangle\]\s+)?(?:pub(?:\(\w+\))? )?(?:extern "C" )?fn (\w+)', re.M)
+FUNCTION = re.compile(r'^ *(?:#\[unsafe\(no_mangle\)\]\s+)?(?:pub(?:\(\w+\))? )?(?:extern "C" )?fn (\w+)', re.M)
 HEAD = re.compile(r"# (\w+)(?: \(([\w, ]+)\))?(?: \[(\w+)\.([\w-]+): ([\w-]+)\])?: ")
 # words and signs of code, to be counted
 WORD = re.compile(r"b?'(?:\\.|[^'])'|\w+|[<>=!]=|&&|\|\||\S")
 TABLE = "docs/generated/wrong-engines.md"
+PROOFS = ("Proof.antt", "Answers.antt", "Invariants.antt")
 # The public contracts that are records, by crate and file of specs/, with those that they are made of; and the claims on bar and log, on pairs and on the share.
 RECORDS = [
     ("ordering", "Claim", ["LogOf", "LogRules", "PairRules"]),
@@ -63,7 +66,7 @@ Engine = collections.namedtuple("Engine", "label functions clause replacements")
 
 
 def crates():
-    return [line.split(":")[0] for line in open("crates.txt", encoding="utf-8") if ":" in line]
+    return [line.split(":")[0].split()[0] for line in open("crates.txt", encoding="utf-8") if ":" in line]
 
 
 def read(path):
@@ -113,7 +116,7 @@ def changed_clause(crate, file, old, _new):
 
 def has_proof(crate, function):
     *module, name = function
-    return any(os.path.exists("/".join(["crates", crate, "proofs", *module, folder, "Proof.antt"])) for folder in (name, "+" + name))
+    return any(os.path.exists("/".join(["crates", crate, "proofs", *module, name, file])) for file in PROOFS)
 
 
 def word_for_word(engine):
@@ -137,9 +140,6 @@ def misplaced(crate, found):
             wrong[engine.label] = "an engine changes one function, and no two of an edit the same"
         elif functions[n] == {None} and len(found) > 1:
             wrong[engine.label] = "an engine that changes a definition has an edit of its own"
-        elif functions[n] != {None} and not has_proof(crate, *functions[n]) and not word_for_word(engine):
-            # the proof that is tried of itself closes the right body, and says of another shape nothing
-            wrong[engine.label] = "its function has no proof of its own: a wrong body there differs word for word"
     if any(e.clause for e in found) and not all(e.clause for e in found):
         wrong[found[0].label] = "an edit of lost clauses has nothing else"
     return wrong
@@ -156,29 +156,34 @@ def judged(crate, found, log):
             reason = log.refused_anywhere()
         else:
             changed.add(function)
-            reason = log.refused_in(function, all(old.strip() in new and old.count(";") < new.count(";") for _, old, new in engine.replacements))
+            added = all(old.strip() in new and old.count(";") < new.count(";") for _, old, new in engine.replacements)
+            # the search that closes the right body says nothing of another shape, but where it finds values at which the goal is false
+            reason = log.refused_in(function, added, values=not has_proof(crate, function) and not word_for_word(engine))
         if reason:
             wrong[engine.label] = reason
     return wrong, log.disturbed(changed) if changed else []
 
 
-def refused(folder):
-    tried, missed = 0, []
-    for crate in crates():
-        for path in edits(crate):
-            name = f"{crate}/{os.path.basename(path)[:-5]}"
-            found = engines(path)
-            tried += len(found)
-            wrong, disturbed = misplaced(crate, found), []
-            if not os.path.exists(f"{folder}/{name}/.log"):
-                wrong = {engine.label: "not tried" for engine in found}
-            elif not wrong:
-                wrong, disturbed = judged(crate, found, verdicts.Log(crate, read(f"{folder}/{name}/.log")))
-            missed += [f"{name}/{label}: {words}" for label, words in wrong.items()]
-            missed += [f"{name}: no engine changes {where}, and yet: {words}" for where, words in disturbed]
+def refused(folder, names):
+    edits_of = [(crate, path) for crate in names or crates() for path in edits(crate, folder)]
+    found = [engines(path) for _, path in edits_of]
+    changes = [[r for engine in each for r in engine.replacements] for each in found]
+    to_try = [(crate, (os.path.basename(path)[:-5], change)) for (crate, path), change in zip(edits_of, changes)]
+    missed = []
+    for (crate, (name, _)), each, (untried, words) in zip(to_try, found, tries.tried(to_try, crates(), f"target/{folder}")):
+        wrong, disturbed = {}, []
+        if untried:
+            wrong = {engine.label: f"not tried: {untried}" for engine in each}
+        else:
+            wrong = misplaced(crate, each)
+        if not wrong:
+            wrong, disturbed = judged(crate, each, verdicts.Log(crate, words))
+        missed += [f"{crate}/{name}/{label}: {why}" for label, why in wrong.items()]
+        missed += [f"{crate}/{name}: no engine changes {where}, and yet: {why}" for where, why in disturbed]
     for line in missed:
         print(line)
-    print(f"{tried} wrong engines, {len(missed)} complaints")
+    tried = sum(map(len, found))
+    print(f"{tried} wrong engines, {len(missed)} complaints; what the prover says of each edit is in target/{folder}")
     return 1 if missed or not tried else 0
 
 
@@ -244,8 +249,8 @@ def main():
     words = sys.argv[1:]
     if words[:1] == ["table"] and (len(words) == 1 or words[1:] in (["--write"], ["--check"])):
         return table(words[1] if len(words) == 2 else "")
-    if words[:1] == ["refused"] and len(words) <= 2:
-        return refused(words[1] if len(words) == 2 else "target/must-fail")
+    if words[:1] == ["refused"] and set(words[1:]) <= {"--more", *crates()}:
+        return refused("must-fail-more" if "--more" in words else "must-fail", [word for word in words[1:] if word != "--more"])
     if words == ["selftest"]:
         return verdicts.selftest()
     sys.exit(__doc__)

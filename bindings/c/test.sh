@@ -35,7 +35,7 @@ cannot() { # COMMAND...
     [ "$status" -eq 2 ] || wrong "status $status, not 2: $*"
 }
 
-[ -f "$library/librugxeni.a" ] || { wrong "no librugxeni.a in $library: run 'rt staticlib rugxeni', or set RUGXENI_LIB"; exit 1; }
+[ -f "$library/librugxeni.a" ] || { wrong "no librugxeni.a in $library: run 'bash tests/staticlib.sh rugxeni', or set RUGXENI_LIB"; exit 1; }
 mkdir -p "$out"
 for program in text readings write_run short_buffers; do build "$program"; done
 

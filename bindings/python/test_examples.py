@@ -148,4 +148,4 @@ class Programs(unittest.TestCase):
         settings = {**os.environ, "RUGXENI_LIB": str(self.folder)}
         done = subprocess.run(["bash", HERE / "link.sh", self.folder / "out"], env=settings, capture_output=True, text=True, check=False)
         self.assertEqual((done.returncode, done.stdout, list(self.folder.iterdir())), (1, "", []))
-        self.assertRegex(done.stderr, "^link.sh: no .*librugxeni.a: run `rt staticlib rugxeni`")
+        self.assertRegex(done.stderr, "^link.sh: no .*librugxeni.a: run `bash tests/staticlib.sh rugxeni`")

@@ -1,4 +1,4 @@
-//! Finds the static library: in the folder `RUGXENI_LIB`, else where `rt staticlib` leaves it.
+//! Finds the static library: in the folder `RUGXENI_LIB`, else where `tests/staticlib.sh` leaves it.
 
 use std::env;
 use std::path::PathBuf;
@@ -16,7 +16,7 @@ fn main() {
     println!("cargo::rerun-if-changed={}", archive.display());
     if !archive.is_file() {
         println!(
-            "cargo::error=no {ARCHIVE} in {}: run `rt staticlib rugxeni` at the root of the repository, or set RUGXENI_LIB to the folder that holds it",
+            "cargo::error=no {ARCHIVE} in {}: run `bash tests/staticlib.sh rugxeni` at the root of the repository, or set RUGXENI_LIB to its folder",
             folder.display()
         );
         return;

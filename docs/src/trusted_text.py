@@ -37,7 +37,7 @@ def imports(lines):
     """name in this file -> (crate, file, name), and alias -> (crate, file)"""
     names, aliases = {}, {}
     for line in lines:
-        m = re.match(r"(?:ghost )?use Rattle·(\w+?)(?:·specs)?\.specs\.([\w.·-]+?)(?:\.\{(.*)\}| as (\S+?));?$", line.strip())
+        m = re.match(r"(?:ghost )?use Rattle\.(\w+)\.specs\.([\w.-]+?)(?:\.\{(.*)\}| as (\S+?));?$", line.strip())
         if not m:
             continue
         crate, path, list_, alias = m.groups()
@@ -96,7 +96,7 @@ class Files:
 def resolve(word, crate, path, files, names, aliases, defs=None, owner=None):
     out = []
     parts = word.split(".")
-    for part in {word, parts[0], parts[-1]} | {"_" + word + "_"}:
+    for part in {word, *parts} | {"◌" + word + "◌"}:
         if defs is not None and part in defs:
             out.append((crate, path, part))
         if owner is not None and part in owner:
@@ -122,7 +122,7 @@ def cited(crate, files):
         text = open(src, encoding="utf-8").read()
         names, aliases = imports(text.split("\n"))
         for m in re.finditer(r"pub (?:extern \"C\" )?fn \w+\(.*?\n\{", text, re.S):
-            for clause in re.findall(r"(?:requires|ensures) \{(.*?)\}\n", m.group(0), re.S):
+            for clause in re.findall(r"(?:requires|ensures)(?: \w+)? \{(.*?)\}\n", m.group(0), re.S):
                 for word in WORD.findall(clause):
                     yield from resolve(word, crate, "", files, names, aliases)
 
@@ -152,7 +152,7 @@ def reached(roots, files):
 
 def main(word):
     files, before, structs = Files(), set(), set()
-    order = [l.split(":")[0] for l in open("crates.txt")]
+    order = [l.split(":")[0].split()[0] for l in open("crates.txt")]
     lines_of = lambda items: sum(len(files.get(c, p)[0][n]) for c, p, n in items)
     out = ["<!-- written by `python3 docs/src/trusted_text.py --write`; the gate compares -->", "# The definitions that promises rest on", ""]
     out += ["| Rests on | Definitions | Lines | Of these not in a row above |", "|---|---|---|---|"]

@@ -4,7 +4,7 @@
 //   short=N     a call moves at most N bytes
 //   interrupt   every other call is interrupted by a signal before it moves a byte, the first one too
 //   read=K      the Kth read, and every later one, fails; write=K likewise
-//   close       closing standard output fails
+//   sync        a file cannot be stored
 #define _GNU_SOURCE
 #include <errno.h>
 #include <stdlib.h>
@@ -41,7 +41,7 @@ ssize_t write(int fd, const void *buffer, size_t n) {
     return fd == 1 && !n ? -1 : syscall(SYS_write, fd, buffer, n);
 }
 
-int close(int fd) {
-    if (fd == 1 && asked("close")) return errno = ENOSPC, -1;
-    return syscall(SYS_close, fd);
+int fdatasync(int fd) {
+    if (asked("sync")) return errno = ENOSPC, -1;
+    return syscall(SYS_fdatasync, fd);
 }

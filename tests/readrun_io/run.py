@@ -71,14 +71,18 @@ def failed_writes():
     judge("closed errors", run(["bash", "-c", f"'{SCRIPT}' 2>&-"], sent=worked), (example("worked.reading"), b"", 0))
     both("the first write fails", b"", UNWRITTEN, 2, sent=worked, env=faulty("write=1"))
     both("a later write fails", example("worked.reading")[:40], UNWRITTEN, 2, sent=worked, env=faulty("short=20 write=3"))
-    both("the close fails", example("worked.reading"), UNWRITTEN, 2, sent=worked, env=faulty("close"))
-    for program, status in (PROGRAM, -signal.SIGPIPE), (SCRIPT, 128 + signal.SIGPIPE):
-        for restored, wanted in (True, (b"", status)), (False, (UNWRITTEN, 2 if program == SCRIPT else 0)):
+    for calls, said, status in ("sync", UNWRITTEN, 2), ("", b"", 0):
+        with tempfile.TemporaryFile() as file:
+            both(f"a file that {'cannot be' if calls else 'is'} stored", None, said, status, sent=worked, stdout=file, env=faulty(calls))
+            file.seek(0)
+            judge("all of the text is in it, twice", file.read(), 2 * example("worked.reading"))
+    for program in PROGRAM, SCRIPT:
+        for restored in True, False:
             reader, writer = os.pipe()
             os.close(reader)
             got = run([program], sent=worked, stdout=writer, restore_signals=restored)
             os.close(writer)
-            judge(f"nobody reads, {os.path.relpath(program, ROOT)}" + ("" if restored else ", signal ignored"), got[1:], wanted)
+            judge(f"nobody reads, {os.path.relpath(program, ROOT)}" + ("" if restored else ", signal ignored"), got[1:], (b"", 128 + signal.SIGPIPE))
     first = run(["bash", "-c", f"set -o pipefail; '{SCRIPT}' '{EXAMPLES}/full.run' | head -n 1"])
     judge("the first line alone", (first[:2], first[2] in (0, 141)), ((example("full.reading").split(b"\n")[0] + b"\n", b""), True))
 

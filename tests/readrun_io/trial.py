@@ -50,7 +50,7 @@ def run(words, sent=None, **more):
 
 
 def both(name, out, err, status, **more):
-    """The program, which has no status of its own, and the script."""
+    """The program, whose status is 0, and the script."""
     judge(f"{name}, program", run([PROGRAM], **more), (out, err, 0))
     judge(f"{name}, script", run([SCRIPT], **more), (out, err, status))
 

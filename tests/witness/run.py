@@ -24,14 +24,14 @@ import bodies  # noqa: E402
 import definitions  # noqa: E402
 import wrong_engines  # noqa: E402
 
-ROOMS = 2
+ROOMS = 3 if len(os.sched_getaffinity(0)) > 2 else 2
 CLAIM = "specs/Claim.antt"  # what is claimed of a crate's rules; no rule rests on it
 
 
 def libraries():
     """Of each crate those that it rests on."""
     lines = [line.split(":") for line in wrong_engines.read("crates.txt").splitlines() if ":" in line]
-    return {name: below.split() for name, below in lines}
+    return {name.split()[0]: below.split() for name, below in lines}
 
 
 def kind_of(crate, engine, below):
@@ -91,22 +91,45 @@ class Rooms:
         finally:
             self.free.put(room)
 
-    def unchanged(self, crate):
-        return self.trial(lambda room: self.kind.difference(room, crate))
+    def unchanged(self):
+        return self.trial(lambda room: self.kind.difference(room, None))
 
     def seen(self, change):
         return self.trial(lambda room: seen(self.kind, room, *change))
 
 
-def complaints(rooms, crates, right, wrong):
-    """What is wrong with the engines of one kind; right and wrong are pairs of a crate and an engine."""
+def about(crates, right, wrong):
+    """Of each crate the changes of it, with nothing changed first."""
+    return {crate: [None] + [engine for of in (right, wrong) for its, engine in of if its == crate] for crate in crates}
+
+
+def bodies_amiss(folder, below, crates, right, wrong):
+    """What is wrong with the wrong bodies; right and wrong are pairs of a crate and an engine."""
+    changes = about(crates, right, wrong)
     with concurrent.futures.ThreadPoolExecutor(ROOMS) as pool:
-        found = [f"{crate}, with nothing changed: {words}" for crate, words in zip(crates, pool.map(rooms.unchanged, crates)) if words]
+        ended = list(pool.map(lambda crate: bodies.outcomes(f"{folder}/{crate}", crate, below, changes[crate]), crates))
+    found = []
+    for crate, outcomes in zip(crates, ended):
+        for engine, (kind, words) in zip(changes[crate], outcomes):
+            is_wrong = (crate, engine) in wrong
+            if engine is None and kind != bodies.ENDED:
+                found.append(f"{crate}, with nothing changed: {words}")
+            elif engine and not is_wrong and kind != bodies.ENDED:
+                found.append(f"{crate}/{engine.label}, which is right: {words}")
+            elif is_wrong and kind != bodies.SHOWN:
+                found.append(f"{crate}/{engine.label}: nothing shows that it is wrong")
+    return found
+
+
+def definitions_amiss(folder, below, _crates, right, wrong):
+    """The same of the wrong definitions."""
+    rooms = Rooms(folder, definitions, below)
+    words = rooms.unchanged()
+    found = [f"with nothing changed: {words}"] if words else []
+    with concurrent.futures.ThreadPoolExecutor(ROOMS) as pool:
         found += [f"{crate}/{engine.label}, which is right: {words}" for (crate, engine), words in zip(right, pool.map(rooms.seen, right)) if words]
         shown = list(pool.map(rooms.seen, wrong))
-    found += [f"{crate}/{engine.label}: nothing shows that it is wrong" for (crate, engine), words in zip(wrong, shown) if not words]
-    print(f"{rooms.kind.__name__}: {len(right)} right ones, {len(wrong)} wrong ones")
-    return found
+    return found + [f"{crate}/{engine.label}: nothing shows that it is wrong" for (crate, engine), words in zip(wrong, shown) if not words]
 
 
 def main():
@@ -116,13 +139,14 @@ def main():
     if not set(crates) <= set(below):
         sys.exit(__doc__)
     found = []
-    for kind in (bodies, definitions):
+    for kind, amiss in (bodies, bodies_amiss), (definitions, definitions_amiss):
         right, wrong = [[(crate, engine) for crate in crates for engine in of(crate) if kind_of(crate, engine, below) is kind]
                         for of in (right_ones_of, wrong_engines_of)]
         changed = list(dict.fromkeys(crate for crate, _ in right + wrong))
         if changed:
             with tempfile.TemporaryDirectory() as folder:
-                found += complaints(Rooms(folder, kind, below), changed if kind is bodies else changed[:1], right, wrong)
+                found += amiss(folder, below, changed, right, wrong)
+            print(f"{kind.__name__}: {len(right)} right ones, {len(wrong)} wrong ones")
     for line in found:
         print(line)
     print(f"{len(found)} complaints")

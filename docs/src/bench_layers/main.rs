@@ -1,6 +1,6 @@
 // Times two layers of the library on the largest case, and compares what they give with a plain computation of the same.
 //
-//     rt staticlib bench
+//     bash tests/staticlib.sh bench
 //     rustc --edition 2021 -O docs/src/bench_layers/main.rs -L target/staticlib -l static=bench -o target/bench_layers
 //     target/bench_layers
 //

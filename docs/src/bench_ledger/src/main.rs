@@ -1,6 +1,6 @@
 // Times the library on the largest run, and compares every answer and reading with the second engine's.
 //
-//     rt staticlib rugxeni
+//     bash tests/staticlib.sh rugxeni
 //     cargo run --offline --release --manifest-path docs/src/bench_ledger/Cargo.toml
 //
 // m 16, a 1,024, g 64, t 1,024 (half of them contracts), 16 × 128 blocks, every part cited once, all accepted. The

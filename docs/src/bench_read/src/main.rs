@@ -1,6 +1,6 @@
 // Times the reading of a whole run through the Rust interface, against what `readrun` does.
 //
-//     rt staticlib rugxeni
+//     bash tests/staticlib.sh rugxeni
 //     cargo run --offline --release --manifest-path docs/src/bench_read/Cargo.toml
 //
 // `report` is the one call that `readrun` is made of, with buffers that were lent before. `readrun` is that program without
