@@ -1,0 +1,11 @@
+use mathlib.Core.Path.{sym}
+use Rattle.fields.proofs.NumberLaws.{le_halves, le-past}
+use Rattle.fields.proofs.u32_at.Goals as goal
+
+pub returns-then-s-at : goal.returns-then-s-at
+returns-then-s-at c = sym (le-past 4 c.args.s.now c.args.at c.if-s-at.true)
+
+pub returns : goal.returns
+returns c =
+    let a = c.args in
+    le_halves 2 a.s.now a.at c.u16_at.ensures c.u16_at-2.ensures
