@@ -1,0 +1,16 @@
+use Prim.Native.Nat.{◌-◌, ◌≤◌}
+use mathlib.Core.Path.{◌≡◌}
+use Rattle.ordering.specs.Order.{last_of}
+use Rattle.ordering.specs.Table.{climb, rank_in}
+use Rattle.ordering.proofs.climbing.Reads as reads
+use Rattle.ordering.proofs.climbing.Lts as lts
+use Rattle.ordering.proofs.rank_at.Reads as rank-at-reads
+use Rattle.ordering.proofs.climbing.Given as goal
+
+abbrev pub invariant-loop-n : goal.invariant-loop-n
+invariant-loop-n l = (l.n ≤ l.count) × (l.last ≡ last_of (rank_in l.ranks l.instance) l.n) × (climb (rank_in l.ranks l.instance) l.n ≡ l.n)
+
+abbrev pub decreases-loop-n : goal.decreases-loop-n
+decreases-loop-n l = l.count - l.n
+
+-- src/lib.rt:131:5
