@@ -1,0 +1,24 @@
+use Prim.Native.Nat.{◌-◌}
+use borrow.Author.Rules.{rules}
+use lib.ListN.{length}
+use lib.Seq.{length-sets}
+use mathlib.Core.Path.{◌∙◌, ◌≡◌, ap, refl}
+use native.Mathlib.Omega.{arith}
+use Rattle.encoding.specs.Body.{balances_body}
+use Rattle.fields.proofs.RowLaws.{rows_none}
+use Rattle.fields.specs.Rows.{list_bytes}
+use Rattle.frames_write.proofs.BodyStores.{numbers_more}
+use Rattle.frames_write.proofs.lists.put_balances.Goals as goal
+
+pub loop-k-init : goal.loop-k-init
+loop-k-init c = (search rules, rw rows_none refl)
+
+pub loop-k-preserved : goal.loop-k-preserved
+loop-k-preserved c = (omega arith, numbers_more 8 c.args.out.now c.args.list.now 0 c.loop-k.k (omega arith) c.loop-k.invariant.1 c.put_u64.ensures)
+
+pub shape_of-out : goal.shape_of-out
+shape_of-out c = ap length c.loop-k.invariant.1 ∙ simp length-sets
+
+pub returns : goal.returns
+unfolding balances_body list_bytes
+returns c = let q : length c.args.list.now ≡ c.loop-k.k = omega arith in rw q c.loop-k.invariant.1

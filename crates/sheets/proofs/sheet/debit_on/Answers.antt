@@ -1,0 +1,9 @@
+use native.Mathlib.Omega.{arith}
+use Rattle.sheets.proofs.SheetCells.{debit-in, debit-past}
+use Rattle.sheets.proofs.sheet.debit_on.Goals as goal
+
+pub returns-then-z-x : goal.returns-then-z-x
+returns-then-z-x c = (debit-past _ _ _ _ c.if-z-x.true, omega arith)
+
+pub returns : goal.returns
+returns c = (debit-in _ _ _ _ _ _ _ _ c.if-z-x.false c.slot_of-body.ensures c.entries_on.ensures.0 c.debits.ensures c.byte_at.ensures, c.entries_on.ensures.1)
