@@ -9,11 +9,16 @@ mod progress;
 
 use fields::front;
 use input::read_input;
-use output::write_output;
+use output::{Written, write_output};
 use report::report::report_run;
+use std::process::ExitCode;
+
+// The status that a shell gives a program which the signal for a pipe that nobody reads has ended. The system ends no program of
+// Rattle's so: the write fails, and the program ends with this status.
+const UNREAD: u8 = 141;
 
 // Whether the reading was written, all of it.
-fn write_reading(run: &[u8]) -> bool {
+fn write_reading(rt: &HostRuntime, run: &[u8]) -> Written {
     let mut sheet = [0u8; 110592];
     let mut ranks = [0u32; 2048];
     let mut cuts = [0u16; 32768];
@@ -35,22 +40,29 @@ fn write_reading(run: &[u8]) -> bool {
         &mut order,
         &mut out,
     );
-    write_output(front(&out, done.length))
+    write_output(rt, &mut rt.stdout(), front(&out, done.length))
+}
+
+// Where standard error cannot be written either, nobody is told.
+fn say(rt: &impl Eprint, what: &str) {
+    let _ = eprintln!(rt; "readrun: {what}");
 }
 
 // One byte more than a run may have: where it is there the run is long, whatever follows.
-fn main() {
+fn main(rt: HostRuntime) -> ExitCode {
     let mut space = [0u8; 65537];
-    let input = read_input(&mut space);
+    let input = read_input(&mut rt.stdin(), &mut space);
     if !input.whole {
-        io::write_all(libc::STDERR_FILENO, b"readrun: the run could not be read\n");
-        return;
+        say(&rt, "the run could not be read");
+        return ExitCode::SUCCESS;
     }
     let n = input.length;
-    if !write_reading(front(&space, n)) {
-        io::write_all(
-            libc::STDERR_FILENO,
-            b"readrun: the reading could not be written\n",
-        );
+    match write_reading(&rt, front(&space, n)) {
+        Written::Whole => ExitCode::SUCCESS,
+        Written::Unread => ExitCode::from(UNREAD),
+        Written::Failed => {
+            say(&rt, "the reading could not be written");
+            ExitCode::SUCCESS
+        }
     }
 }

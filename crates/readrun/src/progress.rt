@@ -1,14 +1,17 @@
 // How far a call that reads or writes has come.
+use std::io;
+use std::io::ErrorKind;
 
 // A proved loop has to end, and nothing says that an input does. So many calls are enough for a run, or its reading, that goes
 // byte by byte.
 pub const CALLS: u32 = 1048576;
 
-// More can follow, nothing more does, or the call failed.
+// More can follow, nothing more does, nobody reads what is written, or the call failed otherwise.
 #[derive(Clone, Copy)]
 pub enum Progress {
     More,
     Done,
+    Unread,
     Failed,
 }
 
@@ -19,24 +22,29 @@ pub struct Moved {
     pub progress: Progress,
 }
 
-// What a call's answer means. One that a signal interrupted before it moved a byte did not fail: it is made again.
-pub fn progress_of(answer: isize) -> Progress {
-    if answer > 0 {
-        return Progress::More;
+// One that a signal interrupted before it moved a byte did not fail: it is made again.
+fn after_error(kind: ErrorKind) -> Progress {
+    match kind {
+        ErrorKind::Interrupted => Progress::More,
+        ErrorKind::BrokenPipe => Progress::Unread,
+        _ => Progress::Failed,
     }
-    if answer == 0 {
-        return Progress::Done;
+}
+
+// What a call's answer means.
+pub fn progress_of(answer: io::Result<usize>) -> Progress {
+    match answer {
+        Ok(0) => Progress::Done,
+        Ok(_) => Progress::More,
+        Err(e) => after_error(e.kind()),
     }
-    if os::errno() == libc::EINTR {
-        return Progress::More;
-    }
-    Progress::Failed
 }
 
 pub fn has_more(progress: Progress) -> bool {
     match progress {
         Progress::More => true,
         Progress::Done => false,
+        Progress::Unread => false,
         Progress::Failed => false,
     }
 }
@@ -45,6 +53,7 @@ pub fn has_failed(progress: Progress) -> bool {
     match progress {
         Progress::More => false,
         Progress::Done => false,
+        Progress::Unread => true,
         Progress::Failed => true,
     }
 }
@@ -53,6 +62,16 @@ pub fn is_done(progress: Progress) -> bool {
     match progress {
         Progress::More => false,
         Progress::Done => true,
+        Progress::Unread => false,
+        Progress::Failed => false,
+    }
+}
+
+pub fn is_unread(progress: Progress) -> bool {
+    match progress {
+        Progress::More => false,
+        Progress::Done => false,
+        Progress::Unread => true,
         Progress::Failed => false,
     }
 }

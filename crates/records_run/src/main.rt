@@ -5,6 +5,7 @@
 
 ghost use Rattle.std.specs.Prelude.{◌≤◌};
 
+use crate::input::read_full;
 use crate::lent::{is_blank, records_of};
 use crate::reading::{offer_blocks, open_sheet};
 use account_records::Account;
@@ -12,34 +13,40 @@ use fields::front;
 use refusals::{Checked, Refusal, number, place};
 use state::ledger::{Ledger, sizes};
 
+mod input;
 mod lent;
 mod reading;
 
-fn print_field(n: u64) {
-    io::write_all(1, b" ");
-    io::print_decimal(1, n);
+// A write that fails is let go, here and below, and the next one is made.
+fn print_text(rt: &impl Print, text: &str) {
+    let _ = rt.print(text);
+}
+
+fn print_field(rt: &impl Print, n: u64) {
+    print_text(rt, " ");
+    let _ = rt.print(n);
 }
 
 // As document 01 prints it.
-fn print_refusal(r: Refusal) {
-    io::write_all(1, b"refused");
-    print_field(number(r) as u64);
-    print_field(place(r) as u64);
-    io::write_all(1, b"\n");
+fn print_refusal(rt: &impl Print, r: Refusal) {
+    print_text(rt, "refused");
+    print_field(rt, number(r) as u64);
+    print_field(rt, place(r) as u64);
+    print_text(rt, "\n");
 }
 
-fn print_account(k: u64, r: Account) {
-    io::write_all(1, b"account");
-    print_field(k);
-    print_field(r.free);
-    print_field(r.held);
-    io::write_all(1, b"\n");
+fn print_account(rt: &impl Print, k: u64, r: Account) {
+    print_text(rt, "account");
+    print_field(rt, k);
+    print_field(rt, r.free);
+    print_field(rt, r.held);
+    print_text(rt, "\n");
 }
 
-fn print_accounts(records: [Account; 1024], a: u16) {
+fn print_accounts(rt: &impl Print, records: [Account; 1024], a: u16) {
     let mut k = 0u16;
     while k < 1024 && k < a {
-        print_account(k as u64, records[k as usize]);
+        print_account(rt, k as u64, records[k as usize]);
         k += 1;
     }
 }
@@ -61,14 +68,21 @@ fn kept(records: [Account; 1024], a: u16) -> u64 {
     n
 }
 
-fn print_records(records: [Account; 1024], a: u16) {
-    print_accounts(records, a);
-    io::write_all(1, b"kept");
-    print_field(kept(records, a));
-    io::write_all(1, b"\n");
+fn print_records(rt: &impl Print, records: [Account; 1024], a: u16) {
+    print_accounts(rt, records, a);
+    print_text(rt, "kept");
+    print_field(rt, kept(records, a));
+    print_text(rt, "\n");
 }
 
-fn print_reading(ledger: Ledger, sheet: &[u8], ranks: &[u32], cites: &[u16], good: &[u8]) {
+fn print_reading(
+    rt: &impl Print,
+    ledger: Ledger,
+    sheet: &[u8],
+    ranks: &[u32],
+    cites: &[u16],
+    good: &[u8],
+) {
     let mut counts = [0u32; 2048];
     let mut table = [0u8; 1024];
     let mut order = [0u16; 2048];
@@ -87,10 +101,10 @@ fn print_reading(ledger: Ledger, sheet: &[u8], ranks: &[u32], cites: &[u16], goo
         &mut held,
     );
     let z = sizes(ledger);
-    print_records(records, z.a);
+    print_records(rt, records, z.a);
 }
 
-fn print_run(run: &[u8]) {
+fn print_run(rt: &impl Print, run: &[u8]) {
     let mut sheet = [0u8; 110592];
     let mut ranks = [0u32; 2048];
     let mut cuts = [0u16; 32768];
@@ -115,17 +129,17 @@ fn print_run(run: &[u8]) {
     let answer = reached.answer;
     let ledger = reached.ledger;
     match answer {
-        Checked::Refused(r) => print_refusal(r),
-        Checked::Fine => print_reading(ledger, &sheet, &ranks, &cites, &good),
+        Checked::Refused(r) => print_refusal(rt, r),
+        Checked::Fine => print_reading(rt, ledger, &sheet, &ranks, &cites, &good),
     }
 }
 
-fn main() {
+fn main(rt: HostRuntime) {
     let mut space = [0u8; 65537];
-    let n = io::read_full(0, &mut space);
+    let n = read_full(&mut rt.stdin(), &mut space);
     if n > 65536 {
-        io::write_all(1, b"long\n");
+        print_text(&rt, "long\n");
         return;
     }
-    print_run(front(&space, n));
+    print_run(&rt, front(&space, n));
 }

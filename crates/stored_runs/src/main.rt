@@ -7,13 +7,17 @@
 #![tactic(auto)]
 
 mod counts;
+mod input;
 mod texts;
 
 ghost use Rattle.std.specs.Prelude.{◌≤◌};
 
 use counts::{Tally, one_if, together};
 use fields::{front, u32_at};
+use input::read_full;
 use report::report::report_run;
+use std::io::Read;
+use std::{fs, io};
 use texts::same;
 
 // What is found where the next entry would be.
@@ -25,11 +29,11 @@ enum Entry {
 }
 
 // Fills the first n bytes of a buffer from a file. Whether the buffer and the file have so many.
-fn fill(fd: i32, space: &mut [u8], n: usize) -> bool {
+fn fill<R: Read>(file: &mut R, space: &mut [u8], n: usize) -> bool {
     if space.len() < n {
         return false;
     }
-    io::read_full(fd, &mut space[..n]) == n
+    read_full(file, &mut space[..n]) == n
 }
 
 // Whether the reading of a run is the given text.
@@ -60,9 +64,9 @@ fn agrees(run: &[u8], text: &[u8]) -> bool {
 }
 
 // Takes the next entry of a file. One that is cut off, or too long to be a run and its reading, differs.
-fn next_entry(fd: i32) -> Entry {
+fn next_entry<R: Read>(file: &mut R) -> Entry {
     let mut head = [0u8; 8];
-    let got = io::read_full(fd, &mut head);
+    let got = read_full(file, &mut head);
     if got == 0 {
         return Entry::End;
     }
@@ -70,10 +74,10 @@ fn next_entry(fd: i32) -> Entry {
     let text = u32_at(&head, 4) as usize;
     let mut runs = [0u8; 65537];
     let mut texts = [0u8; 262144];
-    if !fill(fd, &mut runs, run) {
+    if !fill(file, &mut runs, run) {
         return Entry::Differs;
     }
-    if !fill(fd, &mut texts, text) {
+    if !fill(file, &mut texts, text) {
         return Entry::Differs;
     }
     if agrees(front(&runs, run), front(&texts, text)) {
@@ -83,14 +87,14 @@ fn next_entry(fd: i32) -> Entry {
 }
 
 // The entries of a file, 4,096 at most: nothing says that a file ends.
-fn tally(fd: i32) -> Tally
+fn tally<R: Read>(file: &mut R) -> Tally
     ensures agree_le_runs { result.agree ≤ result.runs }
     ensures runs_bound { result.runs ≤ 4096 }
 {
     let mut runs = 0u64;
     let mut agree = 0u64;
     while runs < 4096 {
-        let entry = next_entry(fd);
+        let entry = next_entry(file);
         if is_end(entry) {
             break;
         }
@@ -119,41 +123,65 @@ fn is_same(entry: Entry) -> bool {
     }
 }
 
-fn print_tally(tally: Tally) {
-    io::print_decimal(1, tally.runs);
-    io::write_all(1, b" runs, ");
-    io::print_decimal(1, tally.agree);
-    io::write_all(1, b" agree\n");
+// A write that fails is let go, and the next one is made.
+fn print_tally(rt: &impl Print, tally: Tally) {
+    let _ = rt.print(tally.runs);
+    let _ = rt.print(" runs, ");
+    let _ = rt.print(tally.agree);
+    let _ = rt.print(" agree\n");
+}
+
+// The system's words for an error, without their number.
+fn words_of(text: &str) -> &str {
+    match text.split_once(" (os error ") {
+        Some((words, _)) => words,
+        None => text,
+    }
+}
+
+// Says to standard error which file cannot be opened, and why.
+fn say_why(rt: &(impl Eprint + AllocGlobal), name: &str, error: io::Error) {
+    match format!(in rt.alloc(); "{error}") {
+        Ok(text) => {
+            let words = words_of(text.as_str());
+            let _ = eprintln!(rt; "{name}: {words}");
+        }
+        Err(_) => {
+            let _ = eprintln!(rt; "{name}: {error}");
+        }
+    }
 }
 
 // The entries of the file of a name, which are printed and added to those before.
-fn group(name: &[u8], before: Tally) -> Tally {
-    let fd = os::open_read(name);
-    if fd < 0 {
-        os::fail(name);
-        return before;
+fn group(rt: &HostRuntime, name: &str, before: Tally) -> Tally {
+    match fs::open(rt, name) {
+        Ok(mut file) => {
+            let found = tally(&mut file);
+            let _ = rt.print(name);
+            let _ = rt.print(": ");
+            print_tally(rt, found);
+            together(before, found)
+        }
+        Err(error) => {
+            say_why(rt, name, error);
+            before
+        }
     }
-    let found = tally(fd);
-    libc::close(fd);
-    io::write_all(1, name);
-    io::write_all(1, b": ");
-    print_tally(found);
-    together(before, found)
 }
 
-fn main() {
+fn main(rt: HostRuntime) {
     let none = Tally { runs: 0, agree: 0 };
-    let edges = group(b"edges", none);
-    let rules = group(b"rules", edges);
-    let empty = group(b"empty", rules);
-    let empty_views = group(b"empty_views", empty);
-    let share = group(b"share", empty_views);
-    let cut_off = group(b"cut_off", share);
-    let sheets = group(b"sheets", cut_off);
-    let slips = group(b"slips", sheets);
-    let blocks = group(b"blocks", slips);
-    let refusals = group(b"refusals", blocks);
-    let limits = group(b"limits", refusals);
-    let generated = group(b"generated", limits);
-    print_tally(generated);
+    let edges = group(&rt, "edges", none);
+    let rules = group(&rt, "rules", edges);
+    let empty = group(&rt, "empty", rules);
+    let empty_views = group(&rt, "empty_views", empty);
+    let share = group(&rt, "share", empty_views);
+    let cut_off = group(&rt, "cut_off", share);
+    let sheets = group(&rt, "sheets", cut_off);
+    let slips = group(&rt, "slips", sheets);
+    let blocks = group(&rt, "blocks", slips);
+    let refusals = group(&rt, "refusals", blocks);
+    let limits = group(&rt, "limits", refusals);
+    let generated = group(&rt, "generated", limits);
+    print_tally(&rt, generated);
 }
