@@ -1,0 +1,33 @@
+use mathlib.Core.Path.{refl, sym, ◌∙◌}
+use Prim.Native.Nat.{◌-◌}
+use native.Mathlib.Omega.{arith}
+use borrow.Author.Tests.{not-true, not-false}
+use Rattle.replay.proofs.OpenLaws.{comes_first, comes_whole, step_end, step-next, step-refused}
+use Rattle.replay.proofs.opening.open_run.Goals as goal
+
+pub loop-sheet-init : goal.loop-sheet-init
+loop-sheet-init c = (comes_first _ _ _ c.fresh-ledger.ensures, refl)
+
+pub loop-sheet-smaller : goal.loop-sheet-smaller
+loop-sheet-smaller c = let n = step-next _ _ _ _ _ _ _ c.loop-sheet.invariant.0 (sym c.is_complete.ensures ∙ c.loop-sheet-test.true) c.load_sheet-loaded.ensures _ c.in-Next.is in omega (arith, n.1, n.0.inside)
+
+pub loop-sheet-preserved : goal.loop-sheet-preserved
+loop-sheet-preserved c = ((step-next _ _ _ _ _ _ _ c.loop-sheet.invariant.0 (sym c.is_complete.ensures ∙ c.loop-sheet-test.true) c.load_sheet-loaded.ensures _ c.in-Next.is).0, c.sheet-1.given ∙ c.loop-sheet.invariant.1)
+
+pub shape_of-sheet-in-Refused : goal.shape_of-sheet-in-Refused
+shape_of-sheet-in-Refused c = c.sheet-1.given ∙ c.loop-sheet.invariant.1
+
+pub returns-in-Refused : goal.returns-in-Refused
+returns-in-Refused c = step-refused _ _ _ _ _ _ _ c.loop-sheet.invariant.0 (sym c.is_complete.ensures ∙ c.loop-sheet-test.true) c.load_sheet-loaded.ensures _ c.in-Refused.is
+
+pub shape_of-sheet-in-Complete : goal.shape_of-sheet-in-Complete
+shape_of-sheet-in-Complete c = c.sheet-1.given ∙ c.loop-sheet.invariant.1
+
+pub returns-in-Complete : goal.returns-in-Complete
+returns-in-Complete c = step_end _ _ _ _ _ _ _ c.loop-sheet.invariant.0 (sym c.is_complete.ensures ∙ c.loop-sheet-test.true) c.load_sheet-loaded.ensures c.in-Complete.is
+
+pub shape_of-sheet : goal.shape_of-sheet
+shape_of-sheet c = c.loop-sheet.invariant.1
+
+pub returns : goal.returns
+returns c = comes_whole _ _ _ _ _ (sym c.is_complete.ensures ∙ c.loop-sheet-test.false) c.loop-sheet.invariant.0
