@@ -2,5 +2,4 @@
 pub mod Clauses
 pub mod OverLaws
 pub mod BesideLaws
-pub mod Lending
 pub mod WorkedRun
