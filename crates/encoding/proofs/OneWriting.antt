@@ -27,7 +27,6 @@ use Rattle.frames.specs.Block.{block_of, check_block, cites_of, cut_of}
 use Rattle.frames.specs.Frame.{body_at, frame_at}
 use Rattle.frames.specs.Header.{header_of}
 use Rattle.frames.specs.Step.{after_check, judged, kind_due, loading_after}
-use Rattle.ordering.proofs.Merge.{zeros}
 use Rattle.transactions.proofs.BodyLaws.{judged_anywhere, transaction_checked, transaction_fine}
 use Rattle.transactions.specs.Body.{transaction_of}
 use Rattle.transactions.specs.Check.{check_transaction}

@@ -1,4 +1,4 @@
-use Prim.Native.Nat.{◌+◌, ◌-◌, ℕ}
+use Prim.Native.Nat.{◌+◌, ℕ}
 use borrow.Author.Rules.{rules}
 use lib.ListN.{get_or, length, set, take}
 use lib.Seq.{length-sets, sets, take-length}

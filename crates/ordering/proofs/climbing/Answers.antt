@@ -1,13 +1,10 @@
-use Prim.Native.Nat.{◌-◌, ℕ}
+use Prim.Native.Nat.{ℕ}
 use borrow.Author.Rules.{rules}
 use mathlib.Core.Path.{◌∙◌, ◌≡◌, ap, sym}
 use native.Mathlib.Omega.{arith}
 use Rattle.ordering.proofs.Laws.{last_next, last_none}
 use Rattle.ordering.proofs.Usable.{climb_end, climb-more, climb_zero}
 use Rattle.ordering.specs.Table.{climb, rank_in}
-use Rattle.ordering.proofs.climbing.Reads as reads
-use Rattle.ordering.proofs.climbing.Lts as lts
-use Rattle.ordering.proofs.rank_at.Reads as rank-at-reads
 use Rattle.ordering.proofs.climbing.Goals as goal
 
 pub loop-n-init : goal.loop-n-init

@@ -2,9 +2,6 @@ use Prim.Native.Nat.{◌-◌, ◌≤◌}
 use mathlib.Core.Path.{◌≡◌}
 use Rattle.ordering.specs.Order.{last_of}
 use Rattle.ordering.specs.Table.{climb, rank_in}
-use Rattle.ordering.proofs.climbing.Reads as reads
-use Rattle.ordering.proofs.climbing.Lts as lts
-use Rattle.ordering.proofs.rank_at.Reads as rank-at-reads
 use Rattle.ordering.proofs.climbing.Given as goal
 
 abbrev pub invariant-loop-n : goal.invariant-loop-n

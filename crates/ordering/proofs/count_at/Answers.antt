@@ -2,8 +2,6 @@ use borrow.Author.Rules.{rules}
 use lib.ListN.{get_or-eq_default}
 use mathlib.Core.Path.{sym}
 use native.Mathlib.Omega.{arith}
-use Rattle.ordering.proofs.count_at.Reads as reads
-use Rattle.ordering.proofs.count_at.Lts as lts
 use Rattle.ordering.proofs.count_at.Goals as goal
 
 -- src/lib.rt:30:18

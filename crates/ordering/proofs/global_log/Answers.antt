@@ -1,13 +1,11 @@
-use Prim.Native.Nat.{◌-◌, ◌<◌, ℕ}
 use lib.ListN.{length, replicate}
-use mathlib.Core.Bool.{true}
 use mathlib.Core.List.{map}
-use mathlib.Core.Path.{◌∙◌, ◌≡◌, ap, refl, sym}
+use mathlib.Core.Path.{◌∙◌, ap, refl, sym}
 use native.Mathlib.Omega.{arith}
 use Rattle.ordering.proofs.Merge.{sixteen, zeros}
 use Rattle.ordering.proofs.MergePairs.{pair-below, pair-cursor, pair-later, pair-own, pair_turn, pairs_end, pairs_start, stop_small}
 use Rattle.ordering.specs.Order.{log_to}
-use Rattle.ordering.specs.Pairs.{compared, is_first, number_of}
+use Rattle.ordering.specs.Pairs.{number_of}
 use Rattle.ordering.specs.Table.{block_id, count_in, rank_in}
 use Rattle.sums.proofs.SeqLaws.{length-fill}
 use Rattle.ordering.proofs.global_log.Goals as goal

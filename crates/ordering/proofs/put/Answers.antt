@@ -1,8 +1,6 @@
 use borrow.Author.Rules.{rules}
 use lib.Seq.{set_out}
 use mathlib.Core.Path.{sym}
-use Rattle.ordering.proofs.put.Reads as reads
-use Rattle.ordering.proofs.put.Lts as lts
 use Rattle.ordering.proofs.put.Goals as goal
 
 -- src/lib.rt:86:9

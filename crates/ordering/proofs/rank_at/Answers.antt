@@ -1,8 +1,6 @@
 use borrow.Author.Rules.{rules}
 use lib.ListN.{get_or-eq_default}
 use mathlib.Core.Path.{sym}
-use Rattle.ordering.proofs.rank_at.Reads as reads
-use Rattle.ordering.proofs.rank_at.Lts as lts
 use Rattle.ordering.proofs.rank_at.Goals as goal
 
 -- src/lib.rt:21:14

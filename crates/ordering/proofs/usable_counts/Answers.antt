@@ -1,4 +1,4 @@
-use Prim.Native.Nat.{◌-◌, min, ℕ}
+use Prim.Native.Nat.{min, ℕ}
 use borrow.Author.Rules.{rules}
 use lib.ListN.{length-set}
 use mathlib.Core.Path.{◌∙◌, ap, refl}
@@ -6,11 +6,6 @@ use native.Mathlib.Omega.{arith}
 use Rattle.ordering.proofs.Usable.{all-usable}
 use Rattle.ordering.specs.Table.{climb, count_in, rank_in, usable}
 use Rattle.sums.proofs.SeqLaws.{each_more}
-use Rattle.ordering.proofs.usable_counts.Reads as reads
-use Rattle.ordering.proofs.usable_counts.Lts as lts
-use Rattle.ordering.proofs.least.Reads as least-reads
-use Rattle.ordering.proofs.climbing.Reads as climbing-reads
-use Rattle.ordering.proofs.count_at.Reads as count-at-reads
 use Rattle.ordering.proofs.usable_counts.Goals as goal
 
 pub loop-j-init : goal.loop-j-init

@@ -2,11 +2,6 @@ use Prim.Native.Nat.{◌-◌, ◌<◌, ◌≤◌, ℕ}
 use lib.ListN.{length}
 use mathlib.Core.Path.{◌≡◌}
 use Rattle.ordering.specs.Table.{count_in, rank_in, usable}
-use Rattle.ordering.proofs.usable_counts.Reads as reads
-use Rattle.ordering.proofs.usable_counts.Lts as lts
-use Rattle.ordering.proofs.least.Reads as least-reads
-use Rattle.ordering.proofs.climbing.Reads as climbing-reads
-use Rattle.ordering.proofs.count_at.Reads as count-at-reads
 use Rattle.ordering.proofs.usable_counts.Given as goal
 
 abbrev pub invariant-loop-j : goal.invariant-loop-j

@@ -7,10 +7,6 @@ use Rattle.ordering.proofs.Usable.{ordered}
 use Rattle.ordering.specs.Order.{global_log}
 use Rattle.ordering.specs.Table.{Ordered, block_id, count_in, rank_in}
 use Rattle.sums.specs.Seq.{fill}
-use Rattle.ordering.proofs.view_log.Reads as reads
-use Rattle.ordering.proofs.view_log.Lts as lts
-use Rattle.ordering.proofs.global_log.Reads as global-log-reads
-use Rattle.ordering.proofs.usable_counts.Reads as usable-counts-reads
 use Rattle.ordering.proofs.view_log.Goals as goal
 
 -- src/lib.rt:168:9

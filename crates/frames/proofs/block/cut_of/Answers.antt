@@ -1,9 +1,8 @@
-use Prim.Native.Nat.{◌-◌}
 use borrow.Author.Rules.{rules}
 use lib.ListN.{length-set}
 use mathlib.Core.Path.{◌∙◌, refl}
 use native.Mathlib.Omega.{arith}
-use Rattle.frames.specs.Block.{cut_entry, cut_of}
+use Rattle.frames.specs.Block.{cut_of}
 use Rattle.sums.proofs.LoopLaws.{filling_done, filling_more}
 use Rattle.sums.specs.Seq.{tabulate}
 use Rattle.frames.proofs.block.cut_of.Goals as goal

@@ -1,10 +1,7 @@
-use Prim.Native.Nat.{◌-◌}
 use borrow.Author.Rules.{rules}
-use mathlib.Core.Bool.{true}
 use mathlib.Core.Path.{◌∙◌, sym}
 use native.Mathlib.Omega.{arith}
 use Rattle.sums.proofs.LoopLaws.{all_to_done, all_to-more, all_to-none, all_to_not}
-use Rattle.transactions.specs.Check.{new_at}
 use Rattle.transactions.proofs.check.all_new.Goals as goal
 
 pub loop-k-init : goal.loop-k-init

@@ -1,10 +1,7 @@
-use Prim.Native.Nat.{◌-◌}
 use borrow.Author.Rules.{rules}
-use mathlib.Core.Bool.{true}
 use mathlib.Core.Path.{◌∙◌, sym}
 use native.Mathlib.Omega.{arith}
 use Rattle.sums.proofs.LoopLaws.{all_to_done, all_to-more, all_to-none, all_to_not}
-use Rattle.transactions.specs.Check.{operation_ok}
 use Rattle.transactions.proofs.check.operations_ok.Goals as goal
 
 pub loop-k-init : goal.loop-k-init
