@@ -18,7 +18,6 @@ use Rattle.ordering.specs.Table.{count_in}
 use Rattle.plain.proofs.AnswerLaws.{refuse_false, refuse_true, then_go, then_stop}
 use Rattle.plain.specs.Answer.{Answer, accepted, refuse, refused}
 use Rattle.plain.specs.Plain.{cite_answer, cited_before}
-use Rattle.sums.proofs.LoopLaws.{any_to_hit}
 use Rattle.sums.proofs.SeqLaws.{get_d_default}
 use Rattle.sums.proofs.TestLaws.{pick-false, pick_true}
 use Rattle.sums.specs.Test.{any_to}

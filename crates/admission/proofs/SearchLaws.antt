@@ -3,14 +3,14 @@
 use Prim.Native.Nat.{◌+◌, ◌<◌, ◌≤◌, suc, zero, ℕ}
 use borrow.Author.Tests.{not-false, not-true}
 use mathlib.Core.Bool.{Bool, false, not, true}
-use mathlib.Core.Path.{◌∙◌, ◌≡◌, ap, refl, sym}
+use mathlib.Core.Path.{◌∙◌, ◌≡◌, ap, sym}
 use native.Mathlib.Decide.{dec_lt}
 use native.Mathlib.Omega.{arith}
 use Rattle.plain.proofs.AnswerLaws.{accepted_of, first_to-next, first_to-stop, refuse_false, refuse_true, then_go, then_keep}
-use Rattle.plain.specs.Answer.{Answer, ◌then◌, accepted, first_to, is_accepted, no_offer, refuse, refused}
+use Rattle.plain.specs.Answer.{Answer, ◌then◌, accepted, first_to, is_accepted, refuse, refused}
 use Rattle.sums.proofs.LoopLaws.{any_to_hit, any_to-more}
 use Rattle.sums.proofs.TestLaws.{pick-false}
-use Rattle.sums.specs.Test.{any_to, pick}
+use Rattle.sums.specs.Test.{any_to}
 
 -- a search that has come to its last place
 pub at_end : {A B : Type 0} (search : ℕ → B → A) (n i : ℕ) (f : B) {x : A} → i ≤ n → n ≤ i → search i f ≡ x → x ≡ search n f

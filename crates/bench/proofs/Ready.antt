@@ -3,7 +3,7 @@
 use Prim.Native.Nat.{◌*◌, ◌+◌, ◌/◌, ◌<◌, ◌≤◌, ℕ}
 use borrow.Author.Tests.{le-leb, le-ltb, leb-true, lt-leb, lt-ltb, ltb-true}
 use lib.Dec.{leb, ltb}
-use lib.ListN.{get_or, get_or-replicate, length, replicate, take}
+use lib.ListN.{get_or, get_or-replicate, replicate, take}
 use mathlib.Core.Bool.{Bool, false, true}
 use mathlib.Core.List.{List}
 use mathlib.Core.Path.{◌∙◌, ◌≡◌, ap, ap₂, refl, sym}

@@ -1,6 +1,6 @@
 -- When a settlement may be asked for, and what the timed call of it promises.
 -- Assumes nothing.
-use Rattle.std.specs.Prelude.{◌*◌, ◌+◌, ◌<◌, ℕ, leb, ltb, get_or, Bool, false, true, List, ◌≡◌}
+use Rattle.std.specs.Prelude.{◌*◌, ◌+◌, ℕ, leb, ltb, get_or, Bool, false, true, List, ◌≡◌}
 use Rattle.ordering.specs.Table.{rank_in}
 use Rattle.settlement.specs.Settlement.{contracts}
 use Rattle.settlement.specs.Tables.{Buffers, Settled}

@@ -17,7 +17,6 @@ use Rattle.sums.proofs.SumLaws.{sum_add, sum_ext, sum_le, sum_suc, sum_swap, sum
 use Rattle.sums.proofs.TestLaws.{by-given, given_add, given_ext, given_false, given-given, given-le, given_mono, given_zero, sum_given, sum_only}
 use Rattle.sums.specs.Sum.{sum_to}
 use Rattle.sums.specs.Test.{given}
-use Rattle.transactions.specs.Check.{balanced}
 use Rattle.frames.specs.Step.{judged}
 
 -- debits of good parts whose transaction is paid

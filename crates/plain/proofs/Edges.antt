@@ -1,6 +1,6 @@
 -- Each row of the table of edges holds: computed from the rules.
 -- Assumes nothing.
-use mathlib.Core.Path.{◌≡◌, refl}
+use mathlib.Core.Path.{refl}
 use Rattle.escrow.specs.Amounts.{covered_by, credited, debit_at, free, free_by, held, held_by, part_good, reserved}
 use Rattle.escrow.specs.Outcome.{depth, full_view, judge, judged_to, outcome, rows_of, view_of}
 use Rattle.escrow.specs.Report.{rows_all}
@@ -11,7 +11,7 @@ use Rattle.frames.specs.Balances.{balances_ok}
 use Rattle.transactions.specs.Check.{entry_ok, operation_ok, counts_ok, in_range, accounts_once, balanced, judge_transaction}
 use Rattle.ordering.specs.Order.{entry_at, global_log, log_to, seek}
 use Rattle.plain.specs.Answer.{◌then◌, first_to, refuse}
-use Rattle.plain.specs.Edges.{Holds, Row, bar_all}
+use Rattle.plain.specs.Edges.{Holds, bar_all}
 use Rattle.plain.specs.EdgesFurther.{table}
 use Rattle.plain.specs.EdgesShare.{Prints, figures}
 use Rattle.plain.specs.Logs.{appended, history_of}

@@ -1,8 +1,8 @@
 -- What is read depends only on what the view holds.
 -- Assumes nothing.
-use Prim.Native.Nat.{◌*◌, ◌/◌, ◌<◌, ℕ}
+use Prim.Native.Nat.{◌*◌, ◌<◌, ℕ}
 use mathlib.Core.List.{List}
-use mathlib.Core.Path.{◌∙◌, ◌≡◌, ap, refl}
+use mathlib.Core.Path.{◌≡◌, ap}
 use native.Mathlib.Omega.{arith}
 use Rattle.escrow.specs.Outcome.{Citation, History, InLogs, citation, full_view, outcome, rows_of}
 use Rattle.escrow.specs.Report.{rows_all}

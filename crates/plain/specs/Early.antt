@@ -1,6 +1,6 @@
 -- Offers before the sheet is complete (document 01, the order of refusals; a frame that is offered then is not due).
 -- Assumes nothing.
-use Rattle.std.specs.Prelude.{ℕ, List}
+use Rattle.std.specs.Prelude.{ℕ}
 use Rattle.frames.specs.Frame.{frame_at}
 use Rattle.plain.specs.Answer.{Answer, ◌then◌, refused}
 use Rattle.plain.specs.Offers.{Offer, frame, lent_of, offer_needs, values}

@@ -1,6 +1,6 @@
 -- The limits of a log and of a block: "Block 128 accepted, 129 gives 17; 32 citations accepted, 33 give 5", and that the 32nd place of a block counts.
 -- Assumes nothing.
-use Rattle.std.specs.Prelude.{suc, ℕ, replicate, List, [], ◌++◌, ◌∷◌}
+use Rattle.std.specs.Prelude.{suc, ℕ, replicate, [], ◌++◌, ◌∷◌}
 use Rattle.escrow.specs.Outcome.{History}
 use Rattle.ordering.specs.Order.{ref_of}
 use Rattle.plain.specs.Edges.{blk, contract, ent, op, pay, reads, sheet_of}

@@ -3,8 +3,8 @@
 use Prim.Native.Nat.{◌%◌, ◌*◌, ◌+◌, ◌/◌, ◌<◌, ◌≤◌, min, suc, zero, ℕ}
 use borrow.Author.Tests.{eq-eqb, eqb-false, eqb-true, le-ltb, lt-ltb, ne_eqb}
 use lib.Dec.{eqb}
-use lib.ListN.{get_or-eq_default, get_or, length, length-map, length-set, replicate, set, take}
-use lib.Seq.{get_or-set_other, get_or-set_same, take_at}
+use lib.ListN.{get_or-eq_default, get_or, length, length-map, replicate, take}
+use lib.Seq.{take_at}
 use mathlib.Core.Bool.{Bool, false, true}
 use mathlib.Core.List.{List, [], ◌∷◌, map}
 use mathlib.Core.Logic.{◌≢◌}

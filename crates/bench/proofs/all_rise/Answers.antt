@@ -1,6 +1,4 @@
 use mathlib.Core.Path.{sym, ◌∙◌}
-use mathlib.Core.Bool.{true}
-use Prim.Native.Nat.{◌-◌}
 use native.Mathlib.Omega.{arith}
 use Rattle.sums.proofs.LoopLaws.{all_to-none, all_to-more, all_to_not, all_to_done}
 use Rattle.bench.proofs.all_rise.Goals as goal

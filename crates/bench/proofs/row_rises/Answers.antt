@@ -1,8 +1,6 @@
 use mathlib.Core.Path.{sym, ◌∙◌}
-use mathlib.Core.Bool.{true}
-use Prim.Native.Nat.{◌-◌}
 use native.Mathlib.Omega.{arith}
-use Rattle.bench.specs.Bench.{rises, rises_at}
+use Rattle.bench.specs.Bench.{rises}
 use Rattle.sums.proofs.LoopLaws.{all_to-none, all_to-more, all_to_not, all_to_done}
 use Rattle.bench.proofs.row_rises.Goals as goal
 

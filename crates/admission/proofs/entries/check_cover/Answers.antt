@@ -1,5 +1,4 @@
 use mathlib.Core.Path.{ap₂}
-use Prim.Native.Nat.{◌-◌}
 use native.Mathlib.Omega.{arith}
 use Rattle.plain.specs.Answer.{first_to}
 use Rattle.plain.proofs.AnswerLaws.{first_to_zero}

@@ -1,4 +1,3 @@
-use Prim.Native.Nat.{◌-◌}
 use native.Mathlib.Omega.{arith}
 use Rattle.plain.specs.Answer.{first_to}
 use Rattle.plain.proofs.AnswerLaws.{first_to_zero}

@@ -1,5 +1,3 @@
-use mathlib.Core.Bool.{false}
-use Prim.Native.Nat.{◌-◌}
 use native.Mathlib.Omega.{arith}
 use Rattle.sums.specs.Test.{any_to}
 use Rattle.sums.proofs.LoopLaws.{any_to-none}

@@ -1,5 +1,4 @@
 use mathlib.Core.Path.{sym}
-use Prim.Native.Nat.{◌-◌}
 use native.Mathlib.Omega.{arith}
 use Rattle.escrow.specs.Inner.{debits_out}
 use Rattle.sums.proofs.LoopLaws.{sum_done, sum_turn}

@@ -1,8 +1,5 @@
 use mathlib.Core.Path.{sym, ◌∙◌}
-use mathlib.Core.Bool.{true}
-use Prim.Native.Nat.{◌-◌}
 use native.Mathlib.Omega.{arith}
-use Rattle.escrow.specs.Inner.{debit_good}
 use Rattle.sums.proofs.LoopLaws.{all_to_done, all_to-more, all_to-none, all_to_not}
 use Rattle.escrow.proofs.outcome.debits_good.Goals as goal
 

@@ -1,6 +1,5 @@
 use borrow.Author.Rules.{rules}
 use mathlib.Core.Path.{refl, sym, ◌∙◌}
-use Prim.Native.Nat.{◌-◌}
 use native.Mathlib.Omega.{arith}
 use Rattle.settlement.proofs.BookCells.{block_end, block_more, block_none, skip-holds, step-holds}
 use Rattle.settlement.specs.Cells.{rows_in}

@@ -1,6 +1,5 @@
 use borrow.Author.Rules.{rules}
 use mathlib.Core.Path.{refl}
-use Prim.Native.Nat.{◌-◌}
 use native.Mathlib.Omega.{arith}
 use Rattle.settlement.proofs.BookCells.{log_end, log_start, log_turn}
 use Rattle.settlement.specs.Cells.{rows_in}

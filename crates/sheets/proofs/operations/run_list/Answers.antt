@@ -1,4 +1,3 @@
-use Prim.Native.Nat.{◌-◌}
 use borrow.Author.Tests.{not-false, not-true}
 use mathlib.Core.Path.{refl}
 use native.Mathlib.Omega.{arith}

@@ -1,5 +1,4 @@
 use mathlib.Core.Path.{sym}
-use Prim.Native.Nat.{◌-◌}
 use native.Mathlib.Omega.{arith}
 use Rattle.sums.proofs.LoopLaws.{sum_turn, sum_done}
 use Rattle.sums.proofs.SumLaws.{sum_zero}

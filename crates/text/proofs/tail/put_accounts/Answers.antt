@@ -1,4 +1,3 @@
-use Prim.Native.Nat.{◌-◌}
 use native.Mathlib.Omega.{arith}
 use Rattle.text.proofs.TailLaws.{pairs_done, pairs_none, pairs_turn}
 use Rattle.text.proofs.WroteLaws.{wrote_length}

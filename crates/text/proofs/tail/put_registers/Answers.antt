@@ -1,4 +1,3 @@
-use Prim.Native.Nat.{◌-◌}
 use native.Mathlib.Omega.{arith}
 use Rattle.text.proofs.TailLaws.{lines_done, lines_none, lines_turn}
 use Rattle.text.proofs.WroteLaws.{wrote_length}

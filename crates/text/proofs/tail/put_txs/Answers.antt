@@ -1,4 +1,3 @@
-use Prim.Native.Nat.{◌-◌}
 use native.Mathlib.Omega.{arith}
 use Rattle.settlement.specs.Tables.{status_of}
 use Rattle.text.proofs.TailLaws.{codes_are, lines_done, lines_none, lines_turn}

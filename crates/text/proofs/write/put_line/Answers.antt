@@ -1,4 +1,3 @@
-use Prim.Native.Nat.{◌-◌}
 use native.Mathlib.Omega.{arith}
 use Rattle.text.proofs.LineLaws.{fields-none, fields_turn, line_done}
 use Rattle.text.proofs.WroteLaws.{wrote_length, wrote_then}

@@ -1,4 +1,3 @@
-use Prim.Native.Nat.{◌-◌}
 use native.Mathlib.Omega.{arith}
 use Rattle.text.proofs.WroteLaws.{word_done, word_more, wrote_length, wrote_none}
 use Rattle.text.proofs.write.put_word.Goals as goal

@@ -1,4 +1,3 @@
-use Prim.Native.Nat.{◌-◌}
 use borrow.Author.Rules.{rules}
 use lib.ListN.{length}
 use lib.Seq.{length-sets}
@@ -6,7 +5,6 @@ use mathlib.Core.Path.{◌∙◌, ◌≡◌, ap, refl}
 use native.Mathlib.Omega.{arith}
 use Rattle.encoding.specs.Body.{entry_bytes}
 use Rattle.fields.proofs.RowLaws.{list_tabulate, rows_none}
-use Rattle.transactions.specs.Check.{amounts}
 use Rattle.transactions.specs.Content.{no_entry}
 use Rattle.transactions_write.proofs.BodyStores.{entries-more}
 use Rattle.transactions_write.specs.Values.{entry_with}

@@ -4,7 +4,6 @@ use lib.Seq.{sets}
 use mathlib.Core.Path.{◌≡◌}
 use Rattle.encoding.specs.Body.{entry_bytes}
 use Rattle.fields.specs.Rows.{rows_to}
-use Rattle.transactions.specs.Check.{amounts}
 use Rattle.transactions_write.specs.Values.{entry_with}
 use Rattle.transactions_write.proofs.lists.put_entries.Given as goal
 
