@@ -1,9 +1,9 @@
 -- An accepted block step by step: stored, judged, counted.
 -- Assumes nothing.
-use Prim.Native.Nat.{◌*◌, ◌+◌, ◌<◌, ◌≤◌, ℕ}
-use lib.ListN.{get_or, length, length-set, set}
+use Prim.Native.Nat.{◌*◌, ◌+◌, ◌<◌, ℕ}
+use lib.ListN.{get_or, set}
 use mathlib.Core.List.{List}
-use mathlib.Core.Path.{◌∙◌, ◌≡◌, ap, ap₂, refl, sym}
+use mathlib.Core.Path.{◌∙◌, ◌≡◌, ap, refl, sym}
 use native.Mathlib.Omega.{arith}
 use Rattle.admission.specs.Citing.{cites_in, values_of, values_with}
 use Rattle.acceptance.proofs.TakeLaws.{judgeable, space, taken_is}

@@ -4,7 +4,7 @@ use Prim.Native.Nat.{◌*◌, ◌<◌, ◌≤◌, ℕ}
 use borrow.Author.Tests.{eq-eqb, ne_eqb}
 use lib.ListN.{get_or-eq_default, length}
 use mathlib.Core.List.{List}
-use mathlib.Core.Path.{◌≡◌, ap, refl, sym, ◌∙◌}
+use mathlib.Core.Path.{◌≡◌, ap, refl, sym}
 use native.Mathlib.Omega.{arith}
 use Rattle.acceptance.specs.Judging.{view_by}
 use Rattle.ordering.specs.Table.{count_in}

@@ -1,6 +1,6 @@
 -- An accepted block, put into the cells: what it takes, and what it leaves. Only contracts of inner functions cite this.
 -- Assumes nothing.
-use Rattle.std.specs.Prelude.{◌≤◌, ℕ, length, set, List, ◌≡◌}
+use Rattle.std.specs.Prelude.{◌≤◌, ℕ, length, set, ◌≡◌}
 use Rattle.state.specs.Cells.{past_in, taken_in}
 use Rattle.state.specs.State.{Beyond, Kept, cells_of, lengths_of, sheet_of, sizes_of}
 use Rattle.ordering.specs.Table.{count_in}

@@ -1,6 +1,6 @@
 -- Every list of offers is that of some ledger in use.
 -- Assumes nothing.
-use Prim.Native.Nat.{◌*◌, ◌≤◌, ℕ}
+use Prim.Native.Nat.{◌≤◌, ℕ}
 use lib.ListN.{length, length-replicate, replicate, take}
 use lib.Seq.{length-take-le, take_at}
 use mathlib.Core.Bool.{Bool, false, true}

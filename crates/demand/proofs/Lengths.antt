@@ -2,8 +2,7 @@
 -- Assumes nothing.
 use Prim.Native.Nat.{suc, zero, ℕ}
 use lib.ListN.{length, length-set}
-use mathlib.Core.List.{List}
-use mathlib.Core.Path.{◌∙◌, ◌≡◌, ap, refl}
+use mathlib.Core.Path.{◌∙◌, ◌≡◌, refl}
 use Rattle.plain.specs.Answer.{Answer, is_accepted}
 use Rattle.plain.specs.Logs.{Values}
 use Rattle.sheets.specs.Sheet.{Sheet}

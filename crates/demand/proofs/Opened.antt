@@ -3,7 +3,7 @@
 use Prim.Native.Nat.{◌<◌, ◌≤◌, ℕ}
 use borrow.Author.Tests.{eq-eqb, eqb-true, lt-ltb, ne_eqb}
 use lib.Dec.{eqb, ltb}
-use lib.ListN.{length, length-take, replicate, take}
+use lib.ListN.{length, length-take, replicate}
 use mathlib.Core.Bool.{Bool, false, true}
 use mathlib.Core.List.{List}
 use mathlib.Core.Logic.{◌⊎◌, inl, inr}

@@ -1,8 +1,8 @@
 -- Every answer that is due to an offer is one that the call can return, so a result of the call can be built, whatever the ledger, the buffers and the offer are.
 -- Assumes nothing.
 use Prim.Native.Nat.{suc, zero, ℕ}
-use lib.Dec.{eqb, leb, ltb}
-use lib.ListN.{get_or, length}
+use lib.Dec.{leb, ltb}
+use lib.ListN.{length}
 use mathlib.Core.Bool.{Bool, false, not, true}
 use mathlib.Core.List.{List, [], ◌∷◌}
 use mathlib.Core.Path.{◌∙◌, ◌≡◌, ap, ap₂, refl}
@@ -30,7 +30,6 @@ use Rattle.state.specs.Cells.{Cells, cells_offered}
 use Rattle.state.specs.State.{Kept, cells_of, complete, kept, sheet_of}
 use Rattle.state.specs.declared.ledger.Ledger.{Ledger}
 use Rattle.sums.proofs.TestLaws.{by-pick, pick-false}
-use Rattle.sums.specs.Test.{pick}
 
 -- the call can return it
 abbrev pub Reply : plain.Answer → Type 0

@@ -1,27 +1,24 @@
 -- Each call keeps the ledger beside the plain ledger.
 -- Assumes nothing.
-use Prim.Native.Nat.{◌*◌, ◌≤◌, ℕ}
-use lib.Dec.{eqb}
+use Prim.Native.Nat.{ℕ}
 use lib.ListN.{length}
 use mathlib.Core.Bool.{Bool, false, not, true}
-use mathlib.Core.List.{List, [], ◌++◌, ◌∷◌, map}
-use mathlib.Core.Path.{◌∙◌, ◌≡◌, ap, ap₂, refl, subst, sym}
-use native.Mathlib.Omega.{arith}
+use mathlib.Core.List.{List, [], ◌++◌, map}
+use mathlib.Core.Path.{◌∙◌, ◌≡◌, ap, ap₂, refl, sym}
 use Rattle.demand.proofs.Lengths.{offered_lengths}
 use Rattle.escrow.proofs.Growth.{outcome_grown}
 use Rattle.escrow.specs.Cells.{history_in}
 use Rattle.escrow.specs.Outcome.{Citation, History, InLogs, full_view, outcome}
 use Rattle.offers.specs.Offering.{Offers, answer_from, reply_of}
 use Rattle.offers.specs.declared.answer.Offered.{Offered}
-use Rattle.ordering.specs.Order.{Ref}
 use Rattle.plain.proofs.Alike.{alike_extends}
 use Rattle.plain.proofs.AnswerLaws.{lent_enough, lent-front, offer-lent, then_keep, then_not}
-use Rattle.plain.proofs.Engine.{Answered, Engine, report_from, whole_view}
+use Rattle.plain.proofs.Engine.{Answered, report_from, whole_view}
 use Rattle.plain.proofs.Follow.{Follows, follows_next, same_answer}
 use Rattle.plain.proofs.Kept.{proper}
 use Rattle.plain.proofs.Reading.{reads_right}
 use Rattle.plain.specs.Answer.{Answer, ◌then◌, accepted, is_accepted, refuse}
-use Rattle.plain.specs.Logs.{Logs, Values, history_of}
+use Rattle.plain.specs.Logs.{Logs, history_of}
 use Rattle.plain.specs.Offers.{Offer, lent_of, offer_needs, offered}
 use Rattle.plain.specs.Plain.{answer, idle_answer, lent_answer, next}
 use Rattle.plain.specs.Report.{Query, Report, Tells, accounts, fill_needs, lists_of, log, read_answer, registers, report_by, report_of, settle_needs, settlements, share, value_of, work_needs}

@@ -1,11 +1,10 @@
 -- Demand 3, undivided (document 01, "What the promises hold to", e and f): what every ledger in use comes to. The numbers are those of its five points.
 -- Assumes nothing.
 use Rattle.std.specs.Prelude.{◌+◌, ◌<◌, ◌≤◌, ℕ, get_or, length, Bool, true, List, [], ◌∷◌, ◌≢◌, ◌≡◌}
-use Rattle.demand.specs.Chain.{Asked, Event, InUse, asked, offered}
+use Rattle.demand.specs.Chain.{Event, InUse, asked, offered}
 use Rattle.escrow.specs.Amounts.{credited, reserved}
 use Rattle.escrow.specs.Outcome.{Citation, InLogs, full_view, judge, outcome}
 use Rattle.escrow.specs.Report.{rows_all, status_all}
-use Rattle.plain.specs.Answer.{Answer}
 use Rattle.plain.specs.Logs.{Logs, EachBegins, Values, empty_logs, history_of}
 use Rattle.plain.specs.Offers.{Offer, block, frame, parse, values}
 use Rattle.plain.specs.Plain.{answer, ledger, next}

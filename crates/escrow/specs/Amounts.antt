@@ -42,7 +42,7 @@ unfoldable pub held_by : Sheet → Rows → (ℕ → Status) → ℕ → ℕ →
 held_by S R st n k = sum_to n (debit_at S R (λ x. is_pending (st x)) k)
 
 -- "Free = start + credits of paid transactions − debits of good parts whose transaction is not returned". On accepted logs the difference is not cut off at 0
--- in the full view (proofs/Totals, `not_below`), nor in a citation's view for the accounts of its own instance (`Covers-view`). In a citation's view it may be for
+-- in the full view (proofs/Totals, `not_below`), nor in a citation's view for the accounts of its own instance (`covers_view`). In a citation's view it may be for
 -- the accounts of other instances, since views are not closed; no rule looks at those
 unfoldable pub free_by : Sheet → Rows → (ℕ → Status) → ℕ → ℕ → ℕ
 free_by S R st n k = balance S k + credited S st k - reserved S R st n k

@@ -19,7 +19,7 @@ unfoldable pub history_in : (ℕ → ℕ) → List ℕ → List ℕ → List ℕ
 history_in heights ranks cuts cites = record { height = heights; rank = rank_in ranks; entry = cut_in cuts; cell = cell_in cites }
 
 -- ---- amounts by the statuses that stand in a table. No amount looks at ranks, so none are given.
--- Where the table holds the view's statuses they are the rules' amounts: proofs/AmountCells, `Free-in`, `held-in`, `good-in`
+-- Where the table holds the view's statuses they are the rules' amounts: proofs/AmountCells, `free-in`, `held-in`, `good-in`
 
 unfoldable pub free_in : List ℕ → Sizes → List ℕ → List ℕ → List ℕ → List ℕ → ℕ → ℕ
 free_in b z cites good view table k = free_by (sheet_in b z) (rows_in [] cites good) (status_in z table) (count_in view (home (sheet_in b z) k)) k

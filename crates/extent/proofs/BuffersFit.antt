@@ -1,14 +1,11 @@
 -- The buffers of one call fit in 4,194,304 bytes on every sheet: the largest takes 394,240.
 -- Assumes nothing.
-use Prim.Native.Nat.{◌≤◌, ℕ}
-use mathlib.Core.Bool.{true}
-use mathlib.Core.Path.{◌≡◌}
+use Prim.Native.Nat.{◌≤◌}
 use native.Mathlib.Omega.{arith}
 use Rattle.extent.specs.Buffers.{BuffersFit, bytes_of, offer_widths, settle_widths, work_widths}
 use Rattle.plain.specs.Offers.{offer_needs}
 use Rattle.plain.specs.Report.{Query, accounts, log, registers, settle_needs, settlements, share, work_needs}
 use Rattle.sheets.proofs.ProperLaws.{ProperSheet, proper-sheet}
-use Rattle.sheets.specs.Proper.{is_proper}
 use Rattle.sheets.specs.Sheet.{Sheet}
 
 offer_fits : (S : Sheet) → ProperSheet S → bytes_of offer_widths (offer_needs S) ≤ 4194304

@@ -25,7 +25,7 @@ use Rattle.state.specs.State.{Kept, cells_of, complete, kept, lengths_of, sheet_
 use Rattle.acceptance.specs.Taking.{Takeable, Takes}
 use Rattle.ordering.specs.Table.{count_in}
 use Rattle.plain.proofs.AnswerLaws.{accepted_of, refuse_pass, then_pass}
-use Rattle.plain.specs.Answer.{Answer, accepted, is_accepted, refused}
+use Rattle.plain.specs.Answer.{accepted, is_accepted, refused}
 use Rattle.plain.specs.Early.{early_answer, early_frame, early_front}
 use Rattle.plain.specs.Logs.{Values}
 use Rattle.plain.specs.Offers.{Offer, block, block_of, frame, offered, parse, parsed_body, parsed_frame, values, values_in, wrong}

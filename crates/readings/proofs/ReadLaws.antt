@@ -1,6 +1,6 @@
 -- From the answer to what a call for a reading leaves: a refused call leaves everything as it was, an accepted one fills its lists.
 -- Assumes nothing.
-use Prim.Native.Nat.{◌+◌, ◌≤◌, ℕ}
+use Prim.Native.Nat.{◌≤◌, ℕ}
 use lib.ListN.{get_or, length, take}
 use mathlib.Core.Bool.{false, true}
 use mathlib.Core.List.{List, ◌++◌, map, map-id}

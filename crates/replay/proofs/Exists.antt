@@ -4,23 +4,19 @@ use Prim.Native.Nat.{◌≤◌, suc, ℕ}
 use lib.ListN.{length, length-replicate, replicate}
 use mathlib.Core.Bool.{true}
 use mathlib.Core.List.{List, []}
-use mathlib.Core.Path.{◌∙◌, ◌≡◌, ap, refl, subst, sym}
+use mathlib.Core.Path.{◌∙◌, ◌≡◌, ap, refl, subst}
 use native.Mathlib.Omega.{arith}
 use Rattle.demand.proofs.Exists.{chains_exist}
 use Rattle.demand.proofs.Opened.{sheet_said}
-use Rattle.demand.specs.Chain.{InUse, Opening, no_sheet}
-use Rattle.demand.specs.Exists.{Lends, events_from}
-use Rattle.plain.specs.Logs.{empty_logs}
-use Rattle.plain.specs.Offers.{Offer}
+use Rattle.demand.specs.Chain.{Opening, no_sheet}
 use Rattle.refusals.specs.declared.Checked.{Checked}
 use Rattle.replay.proofs.OpenLaws.{Said, came_to, opens_said}
 use Rattle.replay.specs.Exists.{RunChainsExist}
 use Rattle.replay.specs.Inner.{Stand, stand_of}
 use Rattle.replay.specs.Opening.{Opened, ended, no_loading, open_from, sheet}
-use Rattle.sheets.specs.Sheet.{Sheet, sheet_in}
-use Rattle.state.specs.State.{Kept, complete, kept, sizes_of}
+use Rattle.sheets.specs.Sheet.{Sheet}
+use Rattle.state.specs.State.{complete, kept}
 use Rattle.state.specs.declared.ledger.Ledger.{Ledger}
-use Rattle.sums.specs.Seq.{All}
 
 -- the sheet of what opening came to
 sheet_or : Sheet → Opened → Sheet

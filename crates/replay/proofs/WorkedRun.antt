@@ -37,7 +37,7 @@ use Rattle.sums.specs.Seq.{tabulate}
 use Rattle.sums.specs.Sum.{sum_to}
 use Rattle.sums.specs.Test.{all_to, any_to, given, pick}
 use Rattle.text.specs.Ascii.{bytes_of}
-use Rattle.text.specs.Lines.{account_line, log_line, long_line, ok_line, refused_line, register_line, run_line, share_line, tx_line}
+use Rattle.text.specs.Lines.{account_line, log_line, ok_line, refused_line, register_line, run_line, share_line, tx_line}
 use Rattle.text.specs.Tail.{account_lines, lines_from, log_lines, pair_lines, register_lines, tail_text, tx_lines}
 use Rattle.text.specs.Text.{decimal, decimal_by, field, fields, line}
 use Rattle.transactions.specs.Body.{transaction_of}

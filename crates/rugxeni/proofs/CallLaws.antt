@@ -4,12 +4,10 @@ use Prim.Native.Nat.{◌<◌, ◌≤◌, ℕ}
 use lib.ListN.{length}
 use mathlib.Core.Bool.{Bool}
 use mathlib.Core.List.{List}
-use mathlib.Core.Path.{◌≡◌, ap, refl, subst, sym}
+use mathlib.Core.Path.{◌≡◌, refl, sym}
 use native.Mathlib.Omega.{arith}
-use Rattle.admission.specs.Replies.{reply_to}
 use Rattle.encoding.specs.Writing.{Wrote}
 use Rattle.encoding.specs.declared.emit.Written.{Written}
-use Rattle.frames.specs.declared.block.Block.{Block}
 use Rattle.frames.specs.declared.step.Loading.{Loading}
 use Rattle.offers.specs.Offering.{Offers, reply_of}
 use Rattle.offers.specs.declared.answer.Offered.{Offered}

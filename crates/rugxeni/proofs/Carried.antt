@@ -2,7 +2,7 @@
 -- Assumes nothing.
 use Prim.Native.Nat.{◌+◌, ◌-◌, ◌<◌, ◌≤◌, min, ℕ}
 use lib.Dec.{eqb, ltb}
-use lib.ListN.{get_or-append, get_or, get_or-replicate, length, replicate, take}
+use lib.ListN.{get_or-append, get_or, get_or-replicate, length, replicate}
 use lib.Seq.{get_or-take}
 use mathlib.Core.Bool.{Bool, false, true}
 use mathlib.Core.List.{List}
@@ -17,8 +17,7 @@ use Rattle.frames.specs.declared.step.Loading.{Loading}
 use Rattle.frames.specs.declared.step.Step.{Step}
 use Rattle.frames_load.proofs.LoadLaws.{took_it}
 use Rattle.frames_load.specs.Load.{LoadStep}
-use Rattle.offers.specs.Offering.{Offers, answer_from, reply_of}
-use Rattle.offers.specs.declared.answer.Offered.{Offered}
+use Rattle.offers.specs.Offering.{answer_from, reply_of}
 use Rattle.plain.specs.Answer.{is_accepted}
 use Rattle.plain.specs.Offers as offers
 use Rattle.plain.specs.Offers.{Offer}

@@ -1,4 +1,4 @@
--- Numbers in and out of the boundary, its calls, what their clauses give, demand 3 over lists of them (`over_boundary`), and demand 2 over the writers (`Written-Read`).
+-- Numbers in and out of the boundary, its calls, what their clauses give, demand 3 over lists of them (`over_boundary`), and demand 2 over the writers (`written_read`).
 pub mod NumberLaws
 pub mod CallLaws
 pub mod Clauses

@@ -3,7 +3,7 @@
 use Prim.Native.Nat.{◌<◌, ◌≤◌, ℕ}
 use borrow.Author.Tests.{le-ltb, lt-ltb}
 use mathlib.Core.List.{List, [], ◌∷◌}
-use mathlib.Core.Path.{◌∙◌, ◌≡◌, ap, refl, sym}
+use mathlib.Core.Path.{◌≡◌, refl, sym}
 use Rattle.state.specs.Lengths.{least_lengths, needs_list}
 use Rattle.state.specs.State.{Kept, sheet_of, sizes_of}
 use Rattle.plain.proofs.AnswerLaws.{refuse_false, refuse_true, then_go, then_stop}

@@ -9,7 +9,6 @@ use Rattle.frames_load.specs.Load.{LoadStep}
 use Rattle.state.specs.Loading.{LoadsSheet, after_step}
 use Rattle.state.specs.State.{complete}
 use Rattle.frames.specs.declared.step.Step.{Step}
-use Rattle.state.specs.declared.load.Loaded.{Loaded}
 use Rattle.state.specs.declared.ledger.Ledger.{Ledger}
 
 never : false ≡ true → ⊥

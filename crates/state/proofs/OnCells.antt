@@ -2,7 +2,6 @@
 -- Assumes nothing.
 use Prim.Native.Nat.{◌*◌, ◌+◌, ◌-◌, ◌/◌, ◌<◌, ◌≤◌, min, ℕ}
 use lib.ListN.{length}
-use mathlib.Core.List.{List}
 use mathlib.Core.Logic.{◌≢◌}
 use mathlib.Core.Path.{◌∙◌, ◌≡◌, ap, refl, subst, sym}
 use native.Mathlib.Decide.{ℕ_discrete}
@@ -17,7 +16,7 @@ use Rattle.state.proofs.Judging.{judging_new, judging_old, judging_past}
 use Rattle.state.proofs.Grows.{heights-most, store_grown}
 use Rattle.plain.specs.Answer.{accepted, is_accepted}
 use Rattle.state.specs.Cells.{cells_offered, Cells, heights_in, past_in, stored_in, taken_in}
-use Rattle.plain.proofs.Engine.{Answered, Grown, Taken, offer}
+use Rattle.plain.proofs.Engine.{Answered, Grown, Taken}
 use Rattle.plain.specs.Plain.{answer, last_rank}
 use Rattle.ordering.proofs.Usable.{climb_zero}
 use Rattle.ordering.specs.Order.{last_of}

@@ -3,7 +3,7 @@
 use Prim.Native.Nat.{◌*◌, ◌≤◌, ℕ}
 use lib.ListN.{drop, length, length-map}
 use mathlib.Core.List.{List, map}
-use mathlib.Core.Path.{◌∙◌, ◌≡◌, ap, refl}
+use mathlib.Core.Path.{◌∙◌, ap, refl}
 use native.Mathlib.Omega.{arith}
 use Rattle.ordering.proofs.LogSum.{log-size}
 use Rattle.ordering.specs.Order.{global_log}

@@ -36,7 +36,7 @@ tail_text r =
     log_lines r.log
     ++ (tx_lines r.settlements ++ (account_lines r.free r.held ++ (register_lines r.registers ++ share_line r.share)))
 
--- ---- the same of the lists that the calls for readings fill: the law `Tail-of` of proofs/
+-- ---- the same of the lists that the calls for readings fill: the law `tail_of` of proofs/
 
 -- a block by its instance and its sequence number
 unfoldable pub number_lines : List ℕ → List ℕ → List ℕ

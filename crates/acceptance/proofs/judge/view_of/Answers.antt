@@ -1,13 +1,9 @@
-use Prim.Native.Nat.{◌-◌}
 use mathlib.Core.Path.{refl}
 use native.Mathlib.Omega.{arith}
 use Rattle.acceptance.proofs.Views.{view_past}
 use Rattle.acceptance.specs.Judging.{view_by}
 use Rattle.ordering.specs.Table.{count_in}
 use Rattle.sums.proofs.FilledLaws.{filled_end, filled_more, filled_none}
-use Rattle.acceptance.proofs.judge.view_of.Reads as reads
-use Rattle.acceptance.proofs.judge.view_of.Lts as lts
-use Rattle.acceptance.proofs.judge.places_of.Reads as places-of-reads
 use Rattle.acceptance.proofs.judge.view_of.Goals as goal
 
 pub loop-j-init : goal.loop-j-init

@@ -2,9 +2,6 @@ use Prim.Native.Nat.{◌-◌, ◌≤◌}
 use Rattle.acceptance.specs.Judging.{view_by}
 use Rattle.ordering.specs.Table.{count_in}
 use Rattle.sums.proofs.FilledLaws.{Filled}
-use Rattle.acceptance.proofs.judge.view_of.Reads as reads
-use Rattle.acceptance.proofs.judge.view_of.Lts as lts
-use Rattle.acceptance.proofs.judge.places_of.Reads as places-of-reads
 use Rattle.acceptance.proofs.judge.view_of.Given as goal
 
 abbrev pub invariant-loop-j : goal.invariant-loop-j

@@ -1,10 +1,8 @@
 use Prim.Native.Nat.{◌<◌}
-use lib.ListN.{length, set}
-use mathlib.Core.List.{List}
-use mathlib.Core.Path.{◌∙◌, ap, sym}
+use lib.ListN.{length}
+use mathlib.Core.Path.{sym}
 use native.Mathlib.Omega.{arith}
 use Rattle.account_records.proofs.OverLaws.{over-more, over_none}
-use Rattle.account_records.specs.declared.Account.{Account}
 use Rattle.account_records.specs.Records.{joined}
 use Rattle.account_records.proofs.fill.fill_records.Goals as goal
 

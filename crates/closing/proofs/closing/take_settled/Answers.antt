@@ -1,4 +1,3 @@
-use borrow.Author.Rules.{rules}
 use Rattle.closing.proofs.ClosingLaws.{taken, to_last}
 use Rattle.closing.proofs.closing.take_settled.Goals as goal
 

@@ -1,5 +1,5 @@
 use mathlib.Core.Path.{refl, ap}
-use Prim.Native.Nat.{ℕ, ◌*◌, ◌-◌}
+use Prim.Native.Nat.{ℕ, ◌*◌}
 use native.Mathlib.Omega.{arith}
 use Rattle.readings.proofs.SettledLaws.{places_fit, view_done}
 use Rattle.sums.proofs.FilledLaws.{filled_more, filled_none}

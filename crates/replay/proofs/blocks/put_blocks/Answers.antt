@@ -1,5 +1,4 @@
 use mathlib.Core.Path.{sym, ◌∙◌}
-use Prim.Native.Nat.{◌-◌}
 use Rattle.replay.proofs.PutLaws.{turn_first, turn_end, turn-ends, turn-less, turn-next}
 use Rattle.replay.proofs.blocks.put_blocks.Goals as goal
 

@@ -1,7 +1,5 @@
 use mathlib.Core.Path.{refl, sym, ◌∙◌}
-use Prim.Native.Nat.{◌-◌}
 use native.Mathlib.Omega.{arith}
-use borrow.Author.Tests.{not-true, not-false}
 use Rattle.replay.proofs.OpenLaws.{comes_first, comes_whole, step_end, step-next, step-refused}
 use Rattle.replay.proofs.opening.open_run.Goals as goal
 

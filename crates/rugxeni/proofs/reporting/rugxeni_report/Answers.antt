@@ -1,4 +1,3 @@
-use lib.ListN.{length}
 use Rattle.admission.specs.Replies.{reply_to}
 use Rattle.rugxeni.proofs.reporting.rugxeni_report.Goals as goal
 
