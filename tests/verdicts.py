@@ -16,8 +16,9 @@ such a body that one error does not count, neither way.
 A goal to which no file has an answer is tried by `search`. It is a fact, too, where that finds no proof ("it is not proved that ..", and the function's line
 names the goal). Some of these lines say that the facts known there allow values at which the goal is false: VALUES, the stronger word, which a body of another
 shape needs where no file has anything of its function's proof, since a search that closes the right body says of another shape nothing. A loop that asks for
-another measure or invariant is shape. A goal's name has the numbers that a test compares with (`returns-else-at-lt16`): an answer to a goal that is gone is open
-where the prover asks for one of the same name but for its numbers, and else shape.
+another measure or invariant is shape. The names of goals and of what is known there have the test that leads to them, with its numbers and its `!`
+(`returns-then-at-lt16`, `if-not-is_fine`): an answer to a goal that is gone, or one that speaks of a test that is gone, is open where the prover has that name
+but for numbers and `not`, and else shape. Such an engine is refused where a goal of that test is left to which no proof is found.
 """
 import re
 
@@ -52,6 +53,7 @@ GOAL = re.compile(r"note: src/\S+:\d+:\d+: (?:it is )?not proved that .*\(`([^`]
 VALUES = "allow values at which this goal is false"
 # an answer whose goal is gone, and the goals that there are
 GONE = re.compile(r"module `[^`]*\.Goals` has no `([^`]+)` that can be named")
+NO_TEST = re.compile(r"has no field `(if-[^`]+)`")
 ASKED = re.compile(r"^help: `Goals` has no `([^`]+)`; rattle asks for (.*?)(?:; |$)", re.M)
 UNCHOSEN = re.compile(r"\ban? (measure|invariant)\b|\binvariants in ")
 PUT_TOGETHER = re.compile(r"^[^+].*-spec$")
@@ -74,7 +76,19 @@ def verdict(declaration, words):
 
 
 def but_for_numbers(name):
-    return re.sub(r"\d+", "0", name)
+    """A goal's or a test's name, but for the numbers and the `!` of tests."""
+    return re.sub(r"\d+", "0", name.replace("-not-", "-"))
+
+
+def test_of(name):
+    """The test that leads to a goal, as its name has it; empty where none does."""
+    m = re.search(r"-(?:then|else)-.*", but_for_numbers(name))
+    return m[0] if m else ""
+
+
+def is_renamed(gone, names):
+    """Whether one of the names is the one that is gone but for numbers and `not`, or that of another goal behind the same test."""
+    return any(but_for_numbers(gone) == but_for_numbers(name) or (test_of(gone) and test_of(gone) == test_of(name)) for name in names if name != gone)
 
 
 class Log:
@@ -83,7 +97,7 @@ class Log:
     def __init__(self, crate, text):
         # what the prover found to hold after all, if only a definition were opened
         self.held = set(re.findall(r"^(?:\./)?(proofs/\S+?\.antt):\d+:\d+: note: a trial run of this declaration was admitted.* \(in `([^`]*)`\)", text, re.M))
-        self.renamed = {gone for gone, asked in ASKED.findall(text) if but_for_numbers(gone) in map(but_for_numbers, re.findall(r"`([^`]+)`", asked))}
+        self.renamed = {gone for gone, asked in ASKED.findall(text) if is_renamed(gone, re.findall(r"`([^`]+)`", asked))}
         self.errors, self.unproved, at, goals = [], {}, None, []
         for line in text.splitlines():
             m = re.match(r"(?:\./)?((?:proofs|src|specs)/\S+?\.\w+):\d+:\d+: error(?:\[[\w-]+\])?: (?:`([^`]*)`: )?(.*)", line)
@@ -120,6 +134,9 @@ class Log:
     def verdict(self, file, declaration, words):
         gone = GONE.search(words)
         if gone and gone[1] in self.renamed:
+            return "open"
+        gone = NO_TEST.search(words)
+        if gone and is_renamed(gone[1], set(re.findall(r"[`.](if-[\w-]+)", words))):
             return "open"
         return "shape" if (file, declaration) in self.held else verdict(declaration, words)
 
@@ -239,6 +256,19 @@ help: `Goals` has no `returns-lt16`; rattle asks for `returns-lt15`, `bounds`; a
 note: src/lib.rt:38:1: it is not proved that what the function ensures holds when it returns (`returns-ge3`); `search` gave up at one of its limits
 fn c::other: not proved
 help: `Goals` has no `returns-le3`; rattle asks for `returns-ge3`; a `use` line of it can name these places: `Start`
+./proofs/above/Answers.antt:21:28: error: `returns`: record `Rattle.c.proofs.above.Lts.Else2` has no field `if-d-gt4` (nearest: .if-d-gt5, .if-c-lt1)
+  the fields that can be named here are `before`, `if-d-gt5`, `if-c-lt1`
+./proofs/above/Answers.antt:9:28: error: `shape_of-s-then-d-gt4`: `goal.a`: module `R.c.proofs.above.Goals` has no `shape_of-s-then-d-gt4` that can be named
+note: src/lib.rt:38:1: it is not proved that what the function ensures holds when it returns (`returns-then-d-gt5`); `search` gave up at one of its limits
+fn c::above: not proved
+help: `Goals` has no `shape_of-s-then-d-gt4`; rattle asks for `returns-then-d-gt5`; a `use` line of it can name these places: `Start`
+./proofs/both/Answers.antt:21:28: error: `returns`: record `Rattle.c.proofs.both.Lts.Else2` (nearest: .if-is_fine, .is_fine)
+  has no field `if-not-is_fine`
+note: src/lib.rt:38:1: it is not proved that what the function ensures holds when it returns (`returns-then-is_fine`)
+fn c::both: not proved
+./proofs/turned/Answers.antt:21:28: error: `returns`: record `Rattle.c.proofs.turned.Lts.Else2` has no field `if-x-z` (nearest: .if-z-x)
+note: src/lib.rt:38:1: it is not proved that what the function ensures holds when it returns (`returns-then-z-x`)
+fn c::turned: not proved
 note: `bounds-out-k` of proofs/low/Answers.antt may be false: the known facts allow `c.loop-k.k` = `0`
 """
 # Where the text cannot be read or compiled there is nothing else.
@@ -252,6 +282,7 @@ def selftest():
     log = Log("c", SAMPLE_LOG)
     bad = Log("c", SAMPLE_BAD)
     put, get, add, low, near, count, other = ("bytes", "put"), ("bytes", "get"), ("bytes", "add"), ("low",), ("near",), ("count",), ("other",)
+    above, both, turned = ("above",), ("both",), ("turned",)
     asked = [
         (log.refused_in(put), ""),
         (log.refused_in(get), "the proof of bytes::get no longer fits the code's shape"),
@@ -267,6 +298,9 @@ def selftest():
         (log.refused_in(("last",)), "no fact fails in last"),
         (log.refused_in(count), ""),
         (log.refused_in(other), "the proof of other no longer fits the code's shape"),
+        (log.refused_in(above), ""),
+        (log.refused_in(both), ""),
+        (log.refused_in(turned), "the proof of turned no longer fits the code's shape"),
         (bad.refused_in(low), "no fact fails in low"),
         (bad.refused_anywhere(), "no fact fails"),
         ([where for where, _ in bad.disturbed({low})], ["src/lib.rt `None`"]),
@@ -277,8 +311,9 @@ def selftest():
         (log.refused_law("open"), "the proof of open no longer fits"),
         (log.refused_anywhere(), ""),
         (Log("c", "\n".join(line for line in SAMPLE_LOG.splitlines() if "Clauses" in line)).refused_anywhere(), "no fact fails"),
-        ([where for where, _ in log.disturbed({put, get, add, count, other})], ["proofs/Clauses.antt `open`", "proofs/Clauses.antt `law`", "low", "near"]),
-        ([where for where, _ in log.disturbed({get, add, low, near, count, other})],
+        ([where for where, _ in log.disturbed({put, get, add, count, other, above, both, turned})],
+         ["proofs/Clauses.antt `open`", "proofs/Clauses.antt `law`", "low", "near"]),
+        ([where for where, _ in log.disturbed({get, add, low, near, count, other, above, both, turned})],
          ["proofs/bytes/put/Answers.antt `returns`", "proofs/Clauses.antt `open`", "proofs/Clauses.antt `law`"]),
     ]
     wrong += [f"{got!r}, and it is to be {due!r}" for got, due in asked if got != due]
