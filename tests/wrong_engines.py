@@ -27,6 +27,7 @@ import tries
 import verdicts
 
 FUNCTION = re.compile(r'^ *(?:#\[unsafe\(no_mangle\)\]\s+)?(?:pub(?:\(\w+\))? )?(?:extern "C" )?fn (\w+)', re.M)
+IMPL = re.compile(r"^impl(?:<[^{]*?>)? (?:[^{]* for )?(\w+)", re.M)
 HEAD = re.compile(r"# (\w+)(?: \(([\w, ]+)\))?(?: \[(\w+)\.([\w-]+): ([\w-]+)\])?: ")
 # words and signs of code, to be counted
 WORD = re.compile(r"b?'(?:\\.|[^'])'|\w+|[<>=!]=|&&|\|\||\S")
@@ -96,14 +97,15 @@ def engines(path):
 
 
 def changed_function(crate, file, old, _new):
-    """The path of the function that a replacement changes, as ('lists', 'debits'); None where it changes a definition."""
+    """The path of the function that a replacement changes, as ('lists', 'debits'), of a method with its type before it; None where it changes a definition."""
     if not file.endswith(".rt"):
         return None
     text = read(f"crates/{crate}/{file}")
     end = text.index(old) + len(old)
-    name = [m[1] for m in FUNCTION.finditer(text) if m.start() < end][-1]
+    found = [m for m in FUNCTION.finditer(text) if m.start() < end][-1]
+    owner = [m[1] for m in IMPL.finditer(text) if m.start() < end][-1:] if found[0].startswith(" ") else []
     module = os.path.splitext(os.path.relpath(file, "src"))[0]
-    return (name,) if module in ("lib", "main") else (*module.split("/"), name)
+    return (*([] if module in ("lib", "main") else module.split("/")), *owner, found[1])
 
 
 def changed_clause(crate, file, old, _new):

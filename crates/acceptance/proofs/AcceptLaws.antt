@@ -49,7 +49,8 @@ module _ (l : Ledger) (K : Kept) (W : Buffers) (B : Block) (list : Citations) (T
 
   module _ (good : List ℕ) (eg : good ≡ fold_to 32 (λ q. judged_good (sheet_in K.sheet z) ranks cites B.cut B.instance (h * 32 + q)) K.good) (W' : Buffers) (beyond : Beyond z W W')
       (l' : Ledger) (el : l' ≡ raised_to l B.instance (h + 1)) where
-    good-is : good ≡ fold_to 32 (λ q. judged_good (sheet_of l K) (stored_in (values_of B list) (cells_of l K)).ranks (stored_in (values_of B list) (cells_of l K)).cites B.cut B.instance (heights_in (cells_of l K) B.instance * 32 + q)) K.good
+    good-is : good ≡ fold_to 32 (λ q. judged_good (sheet_of l K) (stored_in (values_of B list) (cells_of l K)).ranks (stored_in (values_of B list) (cells_of l K)).cites B.cut
+        B.instance (heights_in (cells_of l K) B.instance * 32 + q)) K.good
     good-is = eg ∙ rw (ez, ranks_are, cites_are, eh) refl
 
     cells_are : cells_of l' (kept K.sheet ranks cuts cites good) ≡ taken_in (sheet_of l K) (values_of B list) (cells_of l K)

@@ -15,8 +15,14 @@ use Rattle.settlement.specs.View.{Rows, View}
 use Rattle.sheets.proofs.SheetCells.{tx-past}
 use Rattle.sheets.specs.Sheet.{sheet_in}
 use Rattle.sums.proofs.LoopLaws.{all_to-none}
-use Rattle.sums.specs.Test.{pick}
+use Rattle.sums.specs.Test.{bit, pick}
+use Rattle.std.specs.Int.{from_bool}
 use Rattle.sheets.specs.declared.sheet.Sizes.{Sizes}
+
+-- a test as the number that is kept of it
+pub bit_is : (b : Bool) → from_bool b ≡ bit b
+bit_is true = refl
+bit_is false = refl
 
 -- the whole blocks of a citation's view
 pub ordered_view : (m : ℕ) (R : ℕ → ℕ → ℕ) (F : ℕ → ℕ) (i p : ℕ) (v : List ℕ) → count_in v ≡ view_by F i p

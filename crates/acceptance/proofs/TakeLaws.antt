@@ -155,7 +155,8 @@ module _ (l : Ledger) (K : Kept) (W : Buffers) (b : Values) (T : Takeable l K W 
   }
 
   pub taken_is : taken_in (sheet_of l K) b (cells_of l K)
-      ≡ with_good (stored_in b (cells_of l K)) (fold_to 32 (λ q. judged_good (sheet_of l K) (stored_in b (cells_of l K)).ranks (stored_in b (cells_of l K)).cites b.cut b.instance (heights_in (cells_of l K) b.instance * 32 + q)) K.good)
+      ≡ with_good (stored_in b (cells_of l K)) (fold_to 32 (λ q. judged_good (sheet_of l K) (stored_in b (cells_of l K)).ranks (stored_in b (cells_of l K)).cites b.cut
+      b.instance (heights_in (cells_of l K) b.instance * 32 + q)) K.good)
   unfolding taken_in stored_in
   taken_is =
       judged-all (sheet_of l K) (omega (arith, m_is, T.some)) (stored_in b (cells_of l K)) b.cut b.instance (heights_in (cells_of l K) b.instance)

@@ -8,6 +8,7 @@ ghost use Rattle.settlement.specs.Tables.{buffers};
 use crate::judge::judge_block;
 use crate::store::store_block;
 use admission::citations::Citations;
+use fields::put;
 use frames::block::Block;
 use ordering::{count_at, usable_counts};
 use state::ledger::{Ledger, sizes};
@@ -16,13 +17,9 @@ use state::ledger::{Ledger, sizes};
 fn raised(ledger: Ledger, i: u16, n: u16) -> Ledger
     ensures { result ≡ raised_to ledger i n }
 {
-    let loading = ledger.loading;
     let mut heights = ledger.heights;
-    let at = i as usize;
-    if at < 16 {
-        heights[at] = n;
-    }
-    Ledger { loading, heights }
+    put(&mut heights, i as usize, n);
+    Ledger { heights, ..ledger }
 }
 
 pub fn take_block(

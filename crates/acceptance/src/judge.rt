@@ -35,12 +35,6 @@ fn view_of(cut: [u16; 16], i: u16, p: u16) -> [u16; 16]
     view
 }
 
-fn flag(good: bool) -> u8
-    ensures { result ≡ bit good }
-{
-    if good { 1 } else { 0 }
-}
-
 // Whether the part cited at place p of instance i is good in its view. An empty place has no debits, and so is good.
 fn part_good(
     sheet: &[u8],
@@ -94,7 +88,7 @@ fn judge_place(
     let fine = part_good(
         sheet, ranks, cites, good, z, cut, i, p, counts, table, order,
     );
-    put_byte(good, (i as usize) * 4096 + (p as usize), flag(fine));
+    put_byte(good, (i as usize) * 4096 + (p as usize), u8::from(fine));
 }
 
 // Judges the 32 places of block h of instance i, one after the other.

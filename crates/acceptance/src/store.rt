@@ -1,31 +1,14 @@
 // The cells of an accepted block.
-ghost use Rattle.std.specs.Prelude.{◌*◌, ◌+◌, get_or, set, ◌≡◌};
+ghost use Rattle.std.specs.Prelude.{◌*◌, ◌+◌, get_or, ◌≡◌};
 ghost use Rattle.admission.specs.Citing.{cites_in};
 ghost use Rattle.acceptance.specs.Judging.{Stores};
 ghost use Rattle.settlement.specs.View.{no_cite};
 ghost use Rattle.sums.specs.Seq.{written};
 
 use admission::citations::{Citations, cite};
+use fields::put;
 use frames::block::Block;
-use ordering::{Rank, count_at};
-
-// The rank of block n of instance i.
-fn put_rank(ranks: &mut [u32], i: u16, n: u16, rank: Rank)
-    ensures { ranks.new ≡ set ranks.old (i * 128 + n) rank.0 }
-{
-    let at = (i as usize) * 128 + (n as usize);
-    if at < ranks.len() {
-        ranks[at] = rank.0;
-    }
-}
-
-fn put_cell(cells: &mut [u16], at: usize, v: u16)
-    ensures { cells.new ≡ set cells.old at v }
-{
-    if at < cells.len() {
-        cells[at] = v;
-    }
-}
+use ordering::count_at;
 
 // The sixteen cut entries of block n of instance i.
 fn put_cut(cuts: &mut [u16], i: u16, n: u16, cut: [u16; 16])
@@ -33,7 +16,7 @@ fn put_cut(cuts: &mut [u16], i: u16, n: u16, cut: [u16; 16])
 {
     let at = ((i as usize) * 128 + (n as usize)) * 16;
     for e in 0..16u16 {
-        put_cell(cuts, at + (e as usize), count_at(cut, e));
+        put(cuts, at + (e as usize), count_at(cut, e));
     }
 }
 
@@ -43,7 +26,7 @@ fn put_cites(cites: &mut [u16], i: u16, n: u16, list: Citations)
 {
     let at = (i as usize) * 4096 + (n as usize) * 32;
     for q in 0..32u16 {
-        put_cell(cites, at + (q as usize), cite(list, q));
+        put(cites, at + (q as usize), cite(list, q));
     }
 }
 
@@ -69,7 +52,7 @@ pub fn store_block(
     let i = block.instance;
     let rank = block.rank;
     let cut = block.cut;
-    put_rank(ranks, i, n, rank);
+    put(ranks, (i as usize) * 128 + (n as usize), rank.0);
     put_cut(cuts, i, n, cut);
     put_cites(cites, i, n, list);
 }

@@ -1,8 +1,8 @@
 -- Records over the front of a slice: one more, the length, and the lists that the two lists of a reading make.
 -- Assumes nothing.
 use Prim.Native.Nat.{◌+◌, ◌<◌, ◌≤◌, suc, zero, ℕ}
-use lib.ListN.{length, set, take}
-use mathlib.Core.List.{List, [], ◌∷◌}
+use lib.ListN.{drop, length, set, take}
+use mathlib.Core.List.{List, [], ◌++◌, ◌∷◌}
 use mathlib.Core.Path.{◌≡◌, ap, refl}
 use native.Mathlib.Numerals.{add-one}
 use native.Mathlib.Omega.{arith}
@@ -34,6 +34,16 @@ over-next (suc k) (x ∷ f) (y ∷ h) (z ∷ xs) p q r = ap (λ (l : List Accoun
 pub over-more : (k : ℕ) (f h : List ℕ) (xs : List Account) → k < length f → k < length h → k < length xs
     → set (over (take k (joined f h)) xs) k (record_at f h k) ≡ over (take (k + 1) (joined f h)) xs
 over-more k f h xs p q r = rw (add-one) (over-next k f h xs p q r)
+
+-- records over the front of a slice's front
+pub over_front : (n : ℕ) (l xs : List Account) → length l ≤ n → over l (take n xs) ++ drop n xs ≡ over l xs
+unfolding over
+over_front zero [] xs h = refl
+over_front zero (r ∷ l) xs h = absurd (omega arith)
+over_front (suc n) [] [] h = refl
+over_front (suc n) [] (x ∷ xs) h = ap (λ (m : List Account). x ∷ m) (over_front n [] xs (omega arith))
+over_front (suc n) (r ∷ l) [] h = refl
+over_front (suc n) (r ∷ l) (x ∷ xs) h = ap (λ (m : List Account). r ∷ m) (over_front n l xs (omega arith))
 
 -- two lists, filled from the front, side by side
 pub joined-filled : (f h d e : List ℕ) → length f ≡ length h → length f ≤ length d → length f ≤ length e

@@ -8,7 +8,7 @@ ghost use Rattle.state.specs.State.{kept, sizes_of};
 ghost use Rattle.sums.specs.Test.{given};
 
 use readings::accounts::accounts;
-use refusals::Checked;
+use refusals::Refusal;
 use state::ledger::{Ledger, sizes};
 
 // Fills `free` and `held` where there is room for as many records as accounts.
@@ -24,7 +24,7 @@ pub fn accounts_beside(
     free: &mut [u64],
     held: &mut [u64],
     room: usize,
-) -> Checked
+) -> Result<(), Refusal>
     ensures { ReadsBeside ledger
         (kept sheet.now ranks.now [] cites.now good.now)
         (buffers counts.old table.old order.old)
@@ -50,12 +50,12 @@ pub fn accounts_beside(
 }
 
 // How many records are written: one an account, none on a refusal.
-pub fn records_due(ledger: Ledger, answer: Checked) -> usize
+pub fn records_due(ledger: Ledger, answer: Result<(), Refusal>) -> usize
     ensures { result ≡ given (is_accepted (reply_to answer)) (sizes_of ledger).a }
 {
     match answer {
-        Checked::Refused(_) => 0,
-        Checked::Fine => {
+        Err(_) => 0,
+        Ok(()) => {
             let z = sizes(ledger);
             let due = z.a;
             due as usize

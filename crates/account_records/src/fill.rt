@@ -9,10 +9,7 @@ use crate::Account;
 fn amount_at(amounts: &[u64], k: usize) -> u64
     ensures { result ≡ get_or amounts.now k 0 }
 {
-    if amounts.len() <= k {
-        return 0;
-    }
-    amounts[k]
+    amounts.get(k).copied().unwrap_or(0)
 }
 
 // The record of account k.
@@ -30,9 +27,7 @@ pub fn fill_records(free: &[u64], held: &[u64], n: usize, records: &mut [Account
     requires { (n ≤ length free.now) × (n ≤ length held.now) × (n ≤ length records.old) }
     ensures { records.new ≡ over (take n (joined free.now held.now)) records.old }
 {
-    let mut k: usize = 0;
-    while k < n {
-        records[k] = record_at(free, held, k);
-        k += 1;
+    for (k, record) in records[..n].iter_mut().enumerate() {
+        *record = record_at(free, held, k);
     }
 }

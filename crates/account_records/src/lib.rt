@@ -10,7 +10,7 @@ ghost use Rattle.state.specs.State.{kept};
 
 use crate::beside::{accounts_beside, records_due};
 use crate::fill::fill_records;
-use refusals::Checked;
+use refusals::Refusal;
 use state::ledger::Ledger;
 
 mod beside;
@@ -36,7 +36,7 @@ pub fn account_records(
     free: &mut [u64],
     held: &mut [u64],
     records: &mut [Account],
-) -> Checked
+) -> Result<(), Refusal>
     ensures { ReadsRecords ledger
         (kept sheet.now ranks.now [] cites.now good.now)
         (buffers counts.old table.old order.old)

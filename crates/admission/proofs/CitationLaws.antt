@@ -1,9 +1,10 @@
 -- A list of citations by value: its places, its size, and how it is filled.
 -- Assumes nothing.
+use Rattle.std.proofs.Math.Seq.{take-append_seam}
 use Prim.Native.Nat.{◌*◌, ◌+◌, ◌<◌, ◌≤◌, min, ℕ}
 use lib.ListN.{get_or-eq_default, drop, get_or, length, length-take, take}
 use lib.Seq.{get_or-take}
-use mathlib.Core.List.{List}
+use mathlib.Core.List.{List, ◌++◌}
 use mathlib.Core.Path.{◌∙◌, ◌≡◌, ap, refl, sym}
 use native.Mathlib.Omega.{arith}
 use Rattle.admission.specs.Citing.{Listed, cites_in}
@@ -25,6 +26,10 @@ module _ (c : Citations) (q : ℕ) where
   pub cite_in : q < c.count → q < length c.numbers → get_or c.numbers q 0 ≡ get_or (cites_in c) q no_cite
   unfolding cites_in
   cite_in h l = get_d_default c.numbers q 0 65535 l ∙ sym (get_or-take c.count c.numbers q 65535 h)
+
+pub cite_read : (c : Citations) (q : ℕ) {v : ℕ} → q < c.count → v ≡ get_or c.numbers q 65535 → v ≡ get_or (cites_in c) q no_cite
+unfolding cites_in
+cite_read c q h e = e ∙ sym (get_or-take c.count c.numbers q 65535 h)
 
 pub size_is : (c : Citations) → min c.count (length c.numbers) ≡ length (cites_in c)
 unfolding cites_in
@@ -52,6 +57,17 @@ filled l numbers n k f s few a b e t =
 pub list_filled : (l numbers : List ℕ) (n k : ℕ) → n ≡ min (length l) 32 → length numbers ≡ 32 → k ≤ n → n ≤ k → take k numbers ≡ tabulate k (λ i. get_or l i 0)
     → Listed (record { count = n; numbers = numbers }) l
 list_filled l numbers n k e s a b t = filled l numbers n k (λ i. get_or l i 0) s (omega arith) a b t (first-of l n (λ i. get_or l i 0) e (λ i u. refl))
+
+pub list_copied : (l d s : List ℕ) (n : ℕ) → s ≡ take n l → n ≡ min (length l) 32 → length (s ++ d) ≡ 32 → Listed (record { count = n; numbers = s ++ d }) l
+unfolding cites_in
+list_copied l d s n e m h =
+    let full : length s ≡ n = omega (arith, ap length e, length-take n l) in
+    record {
+      held = ap (λ (k : ℕ). take k (s ++ d)) (sym full) ∙ take-append_seam s d ∙ e ∙ sym (tabulate_is (take n l) n _ 0 (omega (arith, length-take n l)) (λ i u. sym (get_or-take n l i 0 u)))
+          ∙ first-of l n (λ i. get_or l i 0) m (λ i u. refl);
+      size = omega (arith, length-take n (s ++ d));
+      few = omega arith;
+    }
 
 -- ---- the citations of a body
 

@@ -1,11 +1,15 @@
 -- A loop that looks for the first place where a test passes: of a flag, of an answer.
 -- Assumes nothing.
+use Rattle.std.proofs.Common.{Err, Ok, Result}
 use Prim.Native.Nat.{◌+◌, ◌<◌, ◌≤◌, suc, zero, ℕ}
 use borrow.Author.Tests.{not-false, not-true}
 use mathlib.Core.Bool.{Bool, false, not, true}
 use mathlib.Core.Path.{◌∙◌, ◌≡◌, ap, sym}
 use native.Mathlib.Decide.{dec_lt}
 use native.Mathlib.Omega.{arith}
+use Rattle.admission.specs.Replies.{reply_to}
+use Rattle.refusals.specs.Refusals.{refusal_number, refusal_place}
+use Rattle.refusals.specs.declared.Refusal.{Refusal}
 use Rattle.plain.proofs.AnswerLaws.{accepted_of, first_to-next, first_to-stop, refuse_false, refuse_true, then_go, then_keep}
 use Rattle.plain.specs.Answer.{Answer, ◌then◌, accepted, first_to, is_accepted, refuse, refused}
 use Rattle.sums.proofs.LoopLaws.{any_to_hit, any_to-more}
@@ -68,3 +72,24 @@ answer_found n i f {r} {u} h p w q e = w ∙ sym (first_not n i f h p (ap is_acc
 
 pub answer_turn : (i : ℕ) (f : ℕ → Answer) {r : Answer} {u : Bool} → first_to i f ≡ accepted → r ≡ f i → u ≡ is_accepted r → not u ≡ false → first_to (i + 1) f ≡ accepted
 answer_turn i f {r} p w q e = first_to-next i f p ∙ sym w ∙ passes r q e
+
+-- ---- the same by what a check returned
+
+module _ {A : Type 0} {c : Result A Refusal} {a : Answer} (p : reply_to c ≡ a) where
+  pub turned_away : {r : Refusal} (b : Answer) → c ≡ Err r → refused (refusal_number r) (refusal_place r) ≡ (a then b)
+  turned_away b e = let q = ap reply_to (sym e) ∙ p in q ∙ sym (then_keep a b (ap is_accepted (sym q)))
+
+  pub let_pass : {v : A} {b s : Answer} → c ≡ Ok v → s ≡ b → s ≡ (a then b)
+  let_pass {b = b} {s = s} e w = sym (then_go a b s (sym p ∙ ap reply_to e) (sym w))
+
+  pub turned_at : {r : Refusal} (n i : ℕ) (f : ℕ → Answer) → i < n → first_to i f ≡ accepted → a ≡ f i → c ≡ Err r → refused (refusal_number r) (refusal_place r) ≡ first_to n f
+  turned_at n i f h g w e = let q = ap reply_to (sym e) ∙ p ∙ w in q ∙ sym (first_not n i f h g (ap is_accepted (sym q)))
+
+  pub passed_at : {v : A} (i : ℕ) (f : ℕ → Answer) → first_to i f ≡ accepted → a ≡ f i → c ≡ Ok v → first_to (i + 1) f ≡ accepted
+  passed_at i f g w e = first_to-next i f g ∙ sym w ∙ sym p ∙ ap reply_to e
+
+pub accepts : {A : Type 0} {c : Result A Refusal} {v : A} → c ≡ Ok v → true ≡ is_accepted (reply_to c)
+accepts {A} e = sym (ap (λ (x : Result A Refusal). is_accepted (reply_to x)) e)
+
+pub refuses : {A : Type 0} {c : Result A Refusal} {r : Refusal} → c ≡ Err r → false ≡ is_accepted (reply_to c)
+refuses {A} e = sym (ap (λ (x : Result A Refusal). is_accepted (reply_to x)) e)

@@ -1,19 +1,19 @@
 -- The answer that a check returns, by document 01's number and place; and what each check looks at.
 -- Assumes nothing.
-use Rattle.std.specs.Prelude.{◌+◌, ◌<◌, ◌≤◌, ℕ, ltb, get_or, length, List, []}
+use Rattle.std.specs.Prelude.{◌+◌, ◌<◌, ◌≤◌, ℕ, ltb, get_or, length, List, [], Ok, Err, Result}
 use Rattle.escrow.specs.Cells.{history_in}
 use Rattle.escrow.specs.Outcome.{History}
-use Rattle.refusals.specs.declared.Checked.{Checked}
 use Rattle.ordering.specs.Table.{count_in}
 use Rattle.plain.specs.Answer.{Answer, ◌then◌, accepted, first_to, refuse, refused}
 use Rattle.plain.specs.Logs.{Values}
 use Rattle.plain.specs.Plain.{cite_answer, entry_off}
 use Rattle.refusals.specs.Refusals.{refusal_number, refusal_place}
+use Rattle.refusals.specs.declared.Refusal.{Refusal}
 use Rattle.sheets.specs.Sheet.{Sheet}
 
-abbrev pub reply_to : Checked → Answer
-reply_to Checked.Fine = accepted
-reply_to (Checked.Refused r) = refused (refusal_number r) (refusal_place r)
+abbrev pub reply_to : {A : Type 0} → Result A Refusal → Answer
+reply_to (Ok _) = accepted
+reply_to (Err r) = refused (refusal_number r) (refusal_place r)
 
 -- ---- the part of the history that a check looks at
 

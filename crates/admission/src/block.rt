@@ -10,23 +10,22 @@ ghost use Rattle.plain.specs.Plain.{block_answer, last_rank, values_answer};
 use crate::citations::Citations;
 use crate::cites::check_cites;
 use crate::entries::{check_cover, check_order, unused_set};
-use crate::replies::is_fine;
 use frames::block::Block;
 use ordering::count_at;
-use refusals::{Checked, Refusal};
+use refusals::Refusal;
 use sheets::sheet::Sizes;
 
 // Refusal 5 of a block's values: its count, and entries that no instance has.
-pub fn check_values(m: u16, cut: [u16; 16], count: usize) -> Checked
+pub fn check_values(m: u16, cut: [u16; 16], count: usize) -> Result<(), Refusal>
     ensures { reply_to result ≡ values_answer m cut count }
 {
     if 32 < count {
-        return Checked::Refused(Refusal::OutOfRange(0));
+        return Err(Refusal::OutOfRange(0));
     }
     if unused_set(m, cut) {
-        return Checked::Refused(Refusal::OutOfRange(0));
+        return Err(Refusal::OutOfRange(0));
     }
-    Checked::Fine
+    Ok(())
 }
 
 // The rank of instance i's last block, 0 if there is none.
@@ -38,7 +37,7 @@ fn last_rank(heights: [u16; 16], ranks: &[u32], i: u16) -> u32
         return 0;
     }
     let at = (i as usize) * 128 + (h as usize) - 1;
-    if at < ranks.len() { ranks[at] } else { 0 }
+    ranks.get(at).copied().unwrap_or(0)
 }
 
 // 11 over all entries, 12 over all entries, then 13, 14 and 15 at each citation in turn.
@@ -50,19 +49,15 @@ fn check_lists(
     cites: &[u16],
     block: Block,
     list: Citations,
-) -> Checked
+) -> Result<(), Refusal>
     ensures { reply_to result
         ≡ lists_answer (sheet_in sheet.now z) (history_in (count_in heights) [] cuts.now cites.now) (values_of block list) }
 {
     let cut = block.cut;
     let order = check_order(z.m, heights, cuts, block);
     let cover = check_cover(z.m, heights, cut);
-    if !is_fine(order) {
-        return order;
-    }
-    if !is_fine(cover) {
-        return cover;
-    }
+    order?;
+    cover?;
     check_cites(sheet, z, heights, cites, block, list)
 }
 
@@ -76,7 +71,7 @@ pub fn check_block(
     cites: &[u16],
     block: Block,
     list: Citations,
-) -> Checked
+) -> Result<(), Refusal>
     ensures { reply_to result
         ≡ block_answer
         (sheet_in sheet.now z)
@@ -85,18 +80,18 @@ pub fn check_block(
 {
     let i = block.instance;
     if z.m <= i {
-        return Checked::Refused(Refusal::NoInstance);
+        return Err(Refusal::NoInstance);
     }
     let h = count_at(heights, i);
     if 128 <= h {
-        return Checked::Refused(Refusal::LogFull);
+        return Err(Refusal::LogFull);
     }
     if block.sequence.0 != h + 1 {
-        return Checked::Refused(Refusal::NotNumberDue(h + 1));
+        return Err(Refusal::NotNumberDue(h + 1));
     }
     let last = last_rank(heights, ranks, i);
     if block.rank.0 <= last {
-        return Checked::Refused(Refusal::RankNotAbove(last));
+        return Err(Refusal::RankNotAbove(last));
     }
     check_lists(sheet, z, heights, cuts, cites, block, list)
 }

@@ -7,10 +7,13 @@ ghost use Rattle.frames.specs.Block.{cites_of};
 use fields::u16_at;
 use frames::block::{cite_at, cites};
 
+// A block cites at most so many transactions.
+const MOST: usize = 32;
+
 #[derive(Clone, Copy)]
 pub struct Citations {
     pub count: u16,
-    pub numbers: [u16; 32],
+    pub numbers: [u16; MOST],
 }
 
 // The transaction cited at place q; 65535 past the count.
@@ -20,34 +23,23 @@ pub fn cite(c: Citations, q: u16) -> u16
     if c.count <= q {
         return 65535;
     }
-    let numbers = c.numbers;
-    let at = q as usize;
-    if at < 32 { numbers[at] } else { 65535 }
+    c.numbers.get(q as usize).copied().unwrap_or(65535)
 }
 
 // How many there are.
 pub fn size(c: Citations) -> u16
     ensures { result ≡ length (cites_in c) }
 {
-    if c.count < 32 { c.count } else { 32 }
-}
-
-// At most 32 of a number.
-fn at_most(n: usize) -> usize
-    ensures { result ≡ min n 32 }
-{
-    if n < 32 { n } else { 32 }
+    c.count.min(MOST as u16)
 }
 
 // The first 32 of a list.
 pub fn citations_of(list: &[u16]) -> Citations
     ensures { Listed result list.now }
 {
-    let n = at_most(list.len());
-    let mut numbers = [0u16; 32];
-    for k in 0..n {
-        numbers[k] = list[k];
-    }
+    let n = list.len().min(MOST);
+    let mut numbers = [0u16; MOST];
+    numbers[..n].copy_from_slice(&list[..n]);
     Citations {
         count: n as u16,
         numbers,
@@ -58,9 +50,9 @@ pub fn citations_of(list: &[u16]) -> Citations
 pub fn citations_in(body: &[u8], m: u16) -> Citations
     ensures { Listed result (cites_of body.now m) }
 {
-    let count = at_most(u16_at(body, 8) as usize);
+    let count = (u16_at(body, 8) as usize).min(MOST);
     let list = cites(body, m);
-    let mut numbers = [0u16; 32];
+    let mut numbers = [0u16; MOST];
     for k in 0..count {
         numbers[k] = cite_at(list, k as u16);
     }

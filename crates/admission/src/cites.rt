@@ -10,10 +10,9 @@ ghost use Rattle.settlement.specs.Cells.{cell_in};
 ghost use Rattle.settlement.specs.View.{no_cite};
 
 use crate::citations::{Citations, cite, size};
-use crate::replies::is_fine;
 use frames::block::Block;
 use ordering::count_at;
-use refusals::{Checked, Refusal};
+use refusals::Refusal;
 use sheets::parts::has_part;
 use sheets::sheet::Sizes;
 
@@ -62,25 +61,25 @@ fn check_cite(
     block: Block,
     list: Citations,
     q: u16,
-) -> Checked
+) -> Result<(), Refusal>
     ensures { reply_to result ≡ cite_answer (sheet_in sheet.now z) (cites_only heights cites.now) (values_of block list) q }
 {
     let i = block.instance;
     let x = cite(list, q);
     if z.t <= x {
-        return Checked::Refused(Refusal::NoTransaction(q as usize));
+        return Err(Refusal::NoTransaction(q as usize));
     }
     if !has_part(sheet, z, x, i) {
-        return Checked::Refused(Refusal::NoPart(q as usize));
+        return Err(Refusal::NoPart(q as usize));
     }
     let h = count_at(heights, i);
     if cited_by(cites, i, (h as usize) * 32, x) {
-        return Checked::Refused(Refusal::CitedBefore(q as usize));
+        return Err(Refusal::CitedBefore(q as usize));
     }
     if cited_above(list, q, x) {
-        return Checked::Refused(Refusal::CitedBefore(q as usize));
+        return Err(Refusal::CitedBefore(q as usize));
     }
-    Checked::Fine
+    Ok(())
 }
 
 // Refusals 13, 14 and 15 at each citation in turn.
@@ -91,16 +90,13 @@ pub fn check_cites(
     cites: &[u16],
     block: Block,
     list: Citations,
-) -> Checked
+) -> Result<(), Refusal>
     ensures { reply_to result
         ≡ first_to (length (cites_in list)) (cite_answer (sheet_in sheet.now z) (cites_only heights cites.now) (values_of block list)) }
 {
     let n = size(list);
     for q in 0..n {
-        let c = check_cite(sheet, z, heights, cites, block, list, q);
-        if !is_fine(c) {
-            return c;
-        }
+        check_cite(sheet, z, heights, cites, block, list, q)?;
     }
-    Checked::Fine
+    Ok(())
 }

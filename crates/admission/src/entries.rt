@@ -9,12 +9,12 @@ ghost use Rattle.sums.specs.Test.{both};
 
 use frames::block::Block;
 use ordering::count_at;
-use refusals::{Checked, Refusal};
+use refusals::Refusal;
 
 fn is_set(m: u16, cut: [u16; 16], e: u16) -> bool
     ensures { result ≡ both (leb m e) (not (eqb (get_or cut e 0) 0)) }
 {
-    if m <= e { count_at(cut, e) != 0 } else { false }
+    m <= e && count_at(cut, e) != 0
 }
 
 // An entry that no instance has is not 0.
@@ -38,24 +38,14 @@ fn last_entry(heights: [u16; 16], cuts: &[u16], i: u16, e: u16) -> u16
         return 0;
     }
     let at = ((i as usize) * 128 + (h as usize) - 1) * 16 + (e as usize);
-    if at < cuts.len() { cuts[at] } else { 0 }
-}
-
-fn one_less(n: u16) -> u16
-    ensures { result ≡ n - 1 }
-{
-    if n == 0 { 0 } else { n - 1 }
+    cuts.get(at).copied().unwrap_or(0)
 }
 
 // Entry e is the own one, and v is not the number of blocks before this one.
 fn is_own_off(block: Block, e: u16, v: u16) -> bool
     ensures { result ≡ both (eqb e block.instance) (not (eqb v (block.sequence.0 - 1))) }
 {
-    if e == block.instance {
-        v != one_less(block.sequence.0)
-    } else {
-        false
-    }
+    e == block.instance && v != block.sequence.0.saturating_sub(1)
 }
 
 // Refusal 11 at entry e.
@@ -64,32 +54,29 @@ fn is_off(heights: [u16; 16], cuts: &[u16], block: Block, e: u16) -> bool
 {
     let cut = block.cut;
     let v = count_at(cut, e);
-    if is_own_off(block, e, v) {
-        return true;
-    }
-    v < last_entry(heights, cuts, block.instance, e)
+    is_own_off(block, e, v) || v < last_entry(heights, cuts, block.instance, e)
 }
 
 // Refusal 11, over all entries.
-pub fn check_order(m: u16, heights: [u16; 16], cuts: &[u16], block: Block) -> Checked
+pub fn check_order(m: u16, heights: [u16; 16], cuts: &[u16], block: Block) -> Result<(), Refusal>
     ensures { reply_to result ≡ first_to m (λ e. refuse (entry_off (cuts_only heights cuts.now) (values_with block []) e) 11 e) }
 {
     for e in 0..m {
         if is_off(heights, cuts, block, e) {
-            return Checked::Refused(Refusal::EntryBack(e as usize));
+            return Err(Refusal::EntryBack(e as usize));
         }
     }
-    Checked::Fine
+    Ok(())
 }
 
 // Refusal 12, over all entries.
-pub fn check_cover(m: u16, heights: [u16; 16], cut: [u16; 16]) -> Checked
+pub fn check_cover(m: u16, heights: [u16; 16], cut: [u16; 16]) -> Result<(), Refusal>
     ensures { reply_to result ≡ first_to m (λ e. refuse (ltb (count_in heights e) (get_or cut e 0)) 12 e) }
 {
     for e in 0..m {
         if count_at(heights, e) < count_at(cut, e) {
-            return Checked::Refused(Refusal::EntryAhead(e as usize));
+            return Err(Refusal::EntryAhead(e as usize));
         }
     }
-    Checked::Fine
+    Ok(())
 }

@@ -6,4 +6,3 @@ pub mod block;
 pub mod citations;
 mod cites;
 mod entries;
-pub mod replies;

@@ -3,7 +3,7 @@
 use Prim.Native.Nat.{◌*◌, ◌+◌, ◌/◌, ◌<◌, ◌≤◌, ℕ}
 use borrow.Author.Tests.{le-leb, le-ltb, leb-true, lt-leb, lt-ltb, ltb-true}
 use lib.Dec.{leb, ltb}
-use lib.ListN.{get_or, get_or-replicate, replicate, take}
+use lib.ListN.{get_or, get_or-replicate, length, replicate, take}
 use mathlib.Core.Bool.{Bool, false, true}
 use mathlib.Core.List.{List}
 use mathlib.Core.Path.{◌∙◌, ◌≡◌, ap, ap₂, refl, sym}
@@ -14,7 +14,11 @@ use Rattle.settlement.specs.Settlement.{contracts}
 use Rattle.settlement.specs.Tables.{Buffers, Settled, whole_of}
 use Rattle.settlement.specs.View.{Rows, View}
 use Rattle.sheets.specs.Sheet.{Sheet}
-use Rattle.sums.proofs.TestLaws.{all_to_true, both_true, passed, pick-false, pick_true, took}
+use Rattle.std.proofs.lemmas.List.FromFn.{get_or-range_with_len, length-range_with_len}
+use Rattle.std.specs.Bool.{MatchBool}
+use Rattle.std.specs.List.{AllWithin, HoldsAt, range_with_len}
+use Rattle.sums.proofs.LoopLaws.{all_to_not}
+use Rattle.sums.proofs.TestLaws.{all_to_each, all_to_true, both_true, passed, pick-false, pick_true, took}
 use Rattle.sums.specs.Test.{all_to}
 use Rattle.sheets.specs.declared.sheet.Sizes.{Sizes}
 
@@ -28,6 +32,19 @@ module _ (ranks : List ℕ) (b j n : ℕ) where
   pub rises_next : n + 1 < b → (p q : ℕ) → p ≡ rank_in ranks j n → q ≡ rank_in ranks j (n + 1) → ltb p q ≡ rises_at ranks b j n
   unfolding rises_at
   rises_next h p q ep eq = ap₂ ltb ep eq ∙ sym (pick_true _ _ _ (lt-ltb (n + 1) b h))
+
+-- what `all` says of the numbers below n
+pub all_below : (n : ℕ) (f : ℕ → Bool) (r : Bool) → MatchBool r (AllWithin (λ x. f x ≡ true) (range_with_len 0 n) 0 (length (range_with_len 0 n)))
+    ((k : ℕ) × (k < length (range_with_len 0 n)) × HoldsAt (λ x. f x ≡ false) (range_with_len 0 n) k) → r ≡ all_to n f
+all_below n f true h =
+    sym (all_to_each n f (λ i l.
+    let e : i < length (range_with_len 0 n) = omega (arith, l, length-range_with_len 0 n) in
+    let q : i ≡ 0 + i = omega arith in
+    ap f (q ∙ sym (get_or-range_with_len 0 n i 0 l)) ∙ h i 0 (omega arith) e))
+all_below n f false (k, l, h) =
+    let l' : k < n = omega (arith, l, length-range_with_len 0 n) in
+    let q : k ≡ 0 + k = omega arith in
+    sym (all_to_not n k f l' (ap f (q ∙ sym (get_or-range_with_len 0 n k 0 l')) ∙ h 0))
 
 -- ---- all tests
 

@@ -35,24 +35,14 @@ fn rises_at(ranks: &[u32], b: u16, j: u16, n: u16) -> bool
 fn row_rises(ranks: &[u32], b: u16, j: u16) -> bool
     ensures { result ≡ rises ranks.now b j }
 {
-    for n in 0..b {
-        if !rises_at(ranks, b, j, n) {
-            return false;
-        }
-    }
-    true
+    (0..b).all(|n| rises_at(ranks, b, j, n))
 }
 
 // So do those of m instances.
 fn all_rise(ranks: &[u32], b: u16, m: u16) -> bool
     ensures { result ≡ all_to m (rises ranks.now b) }
 {
-    for j in 0..m {
-        if !row_rises(ranks, b, j) {
-            return false;
-        }
-    }
-    true
+    (0..m).all(|j| row_rises(ranks, b, j))
 }
 
 // Whether a settlement of b whole blocks an instance may be asked for, with buffers of these lengths.
@@ -85,8 +75,7 @@ fn is_ready(z: Sizes, ranks: &[u32], b: u16, counts: usize, table: usize, order:
 fn cell(cells: [u32; 64], i: u16) -> u32
     ensures { result ≡ get_or cells i 0 }
 {
-    let at = i as usize;
-    if at < 64 { cells[at] } else { 0 }
+    cells.get(i as usize).copied().unwrap_or(0)
 }
 
 // Register i of g; 0 where there is none.

@@ -27,7 +27,7 @@ use Rattle.settlement.specs.View.{view_log}
 use Rattle.sheets.proofs.SheetCells.{sheet-a, sheet-count, sheet-g, sheet-m}
 use Rattle.sheets.specs.Sheet.{Sheet, tx_count}
 use Rattle.sheets.specs.declared.sheet.Sizes.{Sizes}
-use Rattle.state.proofs.LengthLaws.{lent_end, lent-next}
+use Rattle.state.proofs.LengthLaws.{lent_end, lent_next}
 use Rattle.state.proofs.WorkLaws.{beyond_then}
 use Rattle.state.specs.State.{Beyond, Kept, complete, sheet_of, sizes_of}
 use Rattle.state.specs.declared.ledger.Ledger.{Ledger}
@@ -83,8 +83,8 @@ module _ (l : Ledger) (whole : complete l ≡ true) where
     unfolding read_answer work_needs fill_needs
     log-fine h i s ei es =
         then_go _ _ _ (refuse_false _ 3 0 (ap not whole))
-        (sym (lent-next _ _ _ _ (omega (arith, sheet-m [] (sizes_of l), header.instances))
-        (lent-next _ _ _ _ (omega (arith, log-most Own)) (lent-next _ _ _ _ (omega (arith, log-most Own)) lent_end))))
+        (sym (lent_next _ _ _ _ (omega (arith, sheet-m [] (sizes_of l), header.instances))
+        (lent_next _ _ _ _ (omega (arith, log-most Own)) (lent_next _ _ _ _ (omega (arith, log-most Own)) lent_end))))
 
     log-read : {i s i' s' : List ℕ} {a : Answer} {n : ℕ} {W' : Buffers} → 2048 ≤ length K.ranks → length i ≡ 2048 → length s ≡ 2048
         → Reads l Own no_buffers log (i ∷ s ∷ []) a n W' (i' ∷ s' ∷ []) → take n i' ∷ take n s' ∷ [] ≡ lists_of log (report_in l K)
@@ -120,13 +120,13 @@ module _ (l : Ledger) (whole : complete l ≡ true) (K : Kept) (W : Buffers) (am
       let em = sheet-m K.sheet (sizes_of l) in
       let ea = sheet-a K.sheet (sizes_of l) in
       let et = sheet-count K.sheet (sizes_of l) in
-      lent-next _ _ _ _ (omega (arith, ample.sheet, ea, et, h.accounts, h.transactions))
-      (lent-next _ _ _ _ (omega (arith, ample.ranks, em, h.instances))
-      (lent-next _ _ _ _ (omega (arith, ample.cites, em, h.instances))
-      (lent-next _ _ _ _ (omega (arith, ample.good, em, h.instances))
-      (lent-next _ _ _ _ (omega (arith, ample.counts, et, h.transactions))
-      (lent-next _ _ _ _ (omega (arith, ample.table, et, h.transactions))
-      (lent-next _ _ _ _ (omega (arith, ample.order, em, h.instances)) e))))))
+      lent_next _ _ _ _ (omega (arith, ample.sheet, ea, et, h.accounts, h.transactions))
+      (lent_next _ _ _ _ (omega (arith, ample.ranks, em, h.instances))
+      (lent_next _ _ _ _ (omega (arith, ample.cites, em, h.instances))
+      (lent_next _ _ _ _ (omega (arith, ample.good, em, h.instances))
+      (lent_next _ _ _ _ (omega (arith, ample.counts, et, h.transactions))
+      (lent_next _ _ _ _ (omega (arith, ample.table, et, h.transactions))
+      (lent_next _ _ _ _ (omega (arith, ample.order, em, h.instances)) e))))))
 
   -- once 3 and the working buffers are past
   fine : (needs lent : List ℕ) → accepted ≡ lent_answer needs lent → (refuse (not (complete l)) 3 0 then lent_answer (settle_needs S ++ needs) (settle_lengths K W ++ lent)) ≡ accepted
@@ -137,7 +137,7 @@ module _ (l : Ledger) (whole : complete l ≡ true) (K : Kept) (W : Buffers) (am
   settlements-read {c} {c'} e R =
       let et = sheet-count K.sheet (sizes_of l) in
       let h = (header l whole).transactions in
-      let t = told _ _ _ settlements _ (c ∷ []) _ 0 _ R.tells (fine _ _ (lent-next _ _ _ _ (omega (arith, et)) lent_end)) in
+      let t = told _ _ _ settlements _ (c ∷ []) _ 0 _ R.tells (fine _ _ (lent_next _ _ _ _ (omega (arith, et)) lent_end)) in
       front-one (map code_of (report_in l K).settlements) c c' l.loading.t t.1 (length-map (report_in l K).settlements code_of ∙ length-tabulate (tx_count S) _ ∙ et) (omega arith)
 
   accounts-read : {f h f' h' : List ℕ} {a : Answer} {W' : Buffers} → length f ≡ 1024 → length h ≡ 1024 → Reads l K W accounts (f ∷ h ∷ []) a 0 W' (f' ∷ h' ∷ [])
@@ -146,7 +146,7 @@ module _ (l : Ledger) (whole : complete l ≡ true) (K : Kept) (W : Buffers) (am
   accounts-read {f} {h} {f'} {h'} ef eh R =
       let ea = sheet-a K.sheet (sizes_of l) in
       let u = (header l whole).accounts in
-      let t = told _ _ _ accounts _ (f ∷ h ∷ []) _ 0 _ R.tells (fine _ _ (lent-next _ _ _ _ (omega (arith, ea)) (lent-next _ _ _ _ (omega (arith, ea)) lent_end))) in
+      let t = told _ _ _ accounts _ (f ∷ h ∷ []) _ 0 _ R.tells (fine _ _ (lent_next _ _ _ _ (omega (arith, ea)) (lent_next _ _ _ _ (omega (arith, ea)) lent_end))) in
       front-two (report_in l K).free (report_in l K).held f h f' h' l.loading.a t.1 (length-tabulate S.a _ ∙ ea) (length-tabulate S.a _ ∙ ea) (omega arith) (omega arith)
 
   registers-read : {g g' : List ℕ} {a : Answer} {W' : Buffers} → length g ≡ 64 → Reads l K W registers (g ∷ []) a 0 W' (g' ∷ []) → take l.loading.g g' ∷ [] ≡ lists_of registers (report_in l K)
@@ -154,7 +154,7 @@ module _ (l : Ledger) (whole : complete l ≡ true) (K : Kept) (W : Buffers) (am
   registers-read {g} {g'} e R =
       let eg = sheet-g K.sheet (sizes_of l) in
       let h = (header l whole).registers in
-      let t = told _ _ _ registers _ (g ∷ []) _ 0 _ R.tells (fine _ _ (lent-next _ _ _ _ (omega (arith, eg)) lent_end)) in
+      let t = told _ _ _ registers _ (g ∷ []) _ 0 _ R.tells (fine _ _ (lent_next _ _ _ _ (omega (arith, eg)) lent_end)) in
       front-one (report_in l K).registers g g' l.loading.g t.1 (registers-count S _ _ ∙ eg) (omega arith)
 
   share-read : {a : Answer} {n : ℕ} {W' : Buffers} → Reads l K W share [] a n W' [] → n ≡ value_of share (report_in l K)

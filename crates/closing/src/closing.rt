@@ -48,8 +48,7 @@ fn take_settled(
     let _cells = registers(
         ledger, sheet, ranks, cites, good, counts, table, order, cells,
     );
-    let settled = share(ledger, sheet, ranks, cites, good, counts, table, order);
-    settled.value
+    share(ledger, sheet, ranks, cites, good, counts, table, order).unwrap_or(0)
 }
 
 // Writes them at an offset, and tells where they end. The lists are as long as any sheet needs, so that no call is refused.
@@ -82,7 +81,7 @@ pub fn put_readings(
     let mut free = [0u64; 1024];
     let mut held = [0u64; 1024];
     let mut cells = [0u32; 64];
-    let blocks = log(ledger, ranks, &mut instances, &mut numbers);
+    let blocks = log(ledger, ranks, &mut instances, &mut numbers).unwrap_or(0);
     let settled = take_settled(
         ledger,
         sheet,
@@ -100,7 +99,7 @@ pub fn put_readings(
     put_tail(
         out,
         at,
-        blocks.value as usize,
+        blocks as usize,
         &instances,
         &numbers,
         z.t,

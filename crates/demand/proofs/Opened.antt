@@ -1,5 +1,6 @@
 -- A sheet that was loaded to its end is what the frames said and is proper, and no block is there yet.
 -- Assumes nothing.
+use Rattle.std.proofs.Common.{Ok, Err, Some, None}
 use Prim.Native.Nat.{◌<◌, ◌≤◌, ℕ}
 use borrow.Author.Tests.{eq-eqb, eqb-true, lt-ltb, ne_eqb}
 use lib.Dec.{eqb, ltb}
@@ -14,9 +15,9 @@ use Rattle.demand.proofs.Replies.{early_same}
 use Rattle.demand.specs.Chain.{Opening, SameFront, begin, early, few, load, moved, sheet_after, sheet_with}
 use Rattle.frames.proofs.StepLaws.{due_four, due_late, judged-kind, took_judged}
 use Rattle.frames.specs.Frame.{body_at, body_of, frame_at}
-use Rattle.frames.specs.Step.{header_loaded, kind_due, step_at}
+use Rattle.frames.specs.Step.{header_loaded, kind_due, step_at, taken_step}
 use Rattle.frames.specs.declared.step.Loading.{Loading}
-use Rattle.frames.specs.declared.step.Step.{Step}
+use Rattle.frames.specs.Step.{Step}
 use Rattle.frames_load.proofs.ProperLaws.{load-proper, load-room, loaded_proper, so_far_complete}
 use Rattle.frames_load.specs.Load.{Adds, LoadStep, Loads, load_answer, load_cells, loaded_cells, room, sheet_so_far, with_balances, with_transaction}
 use Rattle.frames_load.specs.Proper.{ProperSoFar, fresh}
@@ -32,18 +33,18 @@ use Rattle.sums.proofs.TestLaws.{by-pick, passed, peel, pick-false, took}
 use Rattle.sums.specs.Test.{pick}
 
 abbrev pub Untaken : Step → Type 0
-Untaken t = (n : Loading) (e : ℕ) → t ≡ Step.Took n e → ⊥
+Untaken t = (n : Loading) (e : ℕ) → t ≡ taken_step n e → ⊥
 
-pub refused_untaken : (r : Refusal) → Untaken (Step.Refused r)
+pub refused_untaken : (r : Refusal) → Untaken (Err r)
 refused_untaken r n e q = let z : ◌≡◌ {A = ℕ} 0 1 = cc in omega arith
 
-pub end_untaken : Untaken Step.End
+pub end_untaken : Untaken (Ok None)
 end_untaken n e q = let z : ◌≡◌ {A = ℕ} 0 1 = cc in omega arith
 
 as_they_were : (s : Loading) (b cells : List ℕ) (t : Step) → Untaken t → loaded_cells s b cells t ≡ cells
-as_they_were s b cells (Step.Took n e) h = absurd (h n e refl)
-as_they_were s b cells (Step.Refused r) h = refl
-as_they_were s b cells Step.End h = refl
+as_they_were s b cells (Ok (Some (n, e))) h = absurd (h n e refl)
+as_they_were s b cells (Err r) h = refl
+as_they_were s b cells (Ok None) h = refl
 
 -- a call that takes no frame leaves the cells as they were
 untaken_cells : (run : List ℕ) (at : ℕ) (s : Loading) (before after : List ℕ) (t : Step) → Loads run at s before after t → Untaken t → after ≡ before
@@ -54,7 +55,7 @@ untaken_cells run at s before after t L h =
     (λ e. as_they_were s (body_of (frame_at run at) run) before (step_at run at s) (subst Untaken (L.answers ∙ pick-false _ _ _ e) h))
 
 -- where a frame was taken the step is the frame's own
-own_step : (run : List ℕ) (at : ℕ) (s next : Loading) (end n : ℕ) → load_answer run at s n ≡ Step.Took next end → step_at run at s ≡ Step.Took next end
+own_step : (run : List ℕ) (at : ℕ) (s next : Loading) (end n : ℕ) → load_answer run at s n ≡ taken_step next end → step_at run at s ≡ taken_step next end
 unfolding load_answer
 own_step run at s next end n q = (peel (ltb n (room s)) (refused_untaken _ next end) q).1
 
@@ -71,7 +72,7 @@ module _ (l : Ledger) (cells cells' run : List ℕ) (at : ℕ) (S : Sheet) (r : 
 
   module _ (more : complete l ≡ false) (t : Step) (L : LoadStep run at l.loading cells cells' t) where
     -- the sheet so far, with what the frame added
-    added : (next : Loading) (end : ℕ) → t ≡ Step.Took next end → 2 ≤ next.stage → sheet_with l.loading (body_at run at) S ≡ sheet_so_far next cells'
+    added : (next : Loading) (end : ℕ) → t ≡ taken_step next end → 2 ≤ next.stage → sheet_with l.loading (body_at run at) S ≡ sheet_so_far next cells'
     unfolding sheet_with complete header_loaded
     added next end q late =
         by_kind (judged-kind l.loading (kind_due l.loading) (body_at run at) at
@@ -91,14 +92,14 @@ module _ (l : Ledger) (cells cells' run : List ℕ) (at : ℕ) (S : Sheet) (r : 
 
   by_step : complete l ≡ false → (t : Step) → LoadStep run at l.loading cells cells' t → r ≡ after_step l t → After
   unfolding After
-  by_step c (Step.Took n e) L q = rw q (record {
+  by_step c (Ok (Some (n, e))) L q = rw q (record {
     proper = load-proper run at l.loading cells cells' n e L.bytes p.proper;
     empty = p.empty;
-    said = added c (Step.Took n e) L n e refl;
+    said = added c (taken_step n e) L n e refl;
     room = load-room run at l.loading cells cells' n e L.bytes;
   })
-  by_step c (Step.Refused x) L q = rw (q, untaken_cells run at l.loading cells cells' (Step.Refused x) L.bytes (refused_untaken x)) p
-  by_step c Step.End L q = rw (q, untaken_cells run at l.loading cells cells' Step.End L.bytes end_untaken) p
+  by_step c (Err x) L q = rw (q, untaken_cells run at l.loading cells cells' (Err x) L.bytes (refused_untaken x)) p
+  by_step c (Ok None) L q = rw (q, untaken_cells run at l.loading cells cells' (Ok None) L.bytes end_untaken) p
 
   by_complete : (b : Bool) → complete l ≡ b → After
   unfolding After

@@ -1,5 +1,6 @@
 -- Every answer that is due to an offer is one that the call can return, so a result of the call can be built, whatever the ledger, the buffers and the offer are.
 -- Assumes nothing.
+use Rattle.std.proofs.Common.{Ok, Err, None, Some}
 use Prim.Native.Nat.{suc, zero, ℕ}
 use lib.Dec.{leb, ltb}
 use lib.ListN.{length}
@@ -8,7 +9,7 @@ use mathlib.Core.List.{List, [], ◌∷◌}
 use mathlib.Core.Path.{◌∙◌, ◌≡◌, ap, ap₂, refl}
 use Rattle.escrow.specs.Outcome.{History}
 use Rattle.frames.specs.Frame.{frame_at}
-use Rattle.frames.specs.declared.frame.Framed.{Framed}
+use Rattle.frames.specs.Frame.{Framed}
 use Rattle.frames.specs.declared.step.Loading.{Loading}
 use Rattle.offers.specs.Offering.{Offers, answer_from, reply_of}
 use Rattle.offers.specs.declared.answer.Answer.{Answer}
@@ -92,9 +93,9 @@ judged S H b =
     (after _ _ (each _ _ (λ e. tested _ (EntryAhead e))) (each _ _ (cited S H b)))))))
 
 early : (at : ℕ) (f : Framed) → Reply (early_frame at f)
-early at (Framed.Whole k start end) = turned (KindNotDue at)
-early at (Framed.Refused r) = turned r
-early at Framed.End = turned (KindNotDue at)
+early at (Ok (Some span)) = turned (KindNotDue at)
+early at (Err r) = turned r
+early at (Ok None) = turned (KindNotDue at)
 
 early-front : (o : Offer) → Reply (early_front o)
 unfolding early_front
@@ -119,9 +120,9 @@ unfolding early_answer early_front
 early_not S o = then_not (idle_answer o) _ (then_not (lent_answer (offer_needs S) (lent_of o)) _ (by-offer o))
   where
     by_frame : (at : ℕ) (f : Framed) → is_accepted (early_frame at f) ≡ false
-    by_frame at (Framed.Whole k start end) = refl
-    by_frame at (Framed.Refused r) = refl
-    by_frame at Framed.End = refl
+    by_frame at (Ok (Some span)) = refl
+    by_frame at (Err r) = refl
+    by_frame at (Ok None) = refl
 
     by-offer : (o : Offer) → is_accepted (early_front o) ≡ false
     by-offer (values lengths b) = refl

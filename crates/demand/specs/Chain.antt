@@ -1,7 +1,7 @@
 -- A ledger in use: made fresh, its sheet loaded frame by frame, then calls in any order (document 01, "What the promises hold to", e).
 -- Each step is, word for word, what the call's contract says.
 -- Assumes nothing.
-use Rattle.std.specs.Prelude.{◌<◌, ◌≤◌, ℕ, eqb, length, take, false, true, List, [], ◌∷◌, ◌≡◌}
+use Rattle.std.specs.Prelude.{◌<◌, ◌≤◌, ℕ, eqb, length, take, false, true, List, [], ◌∷◌, ◌≡◌, Ok, Err, Some, None}
 use Rattle.frames.specs.Frame.{body_at}
 use Rattle.frames.specs.Step.{kind_due}
 use Rattle.frames.specs.declared.step.Loading.{Loading}
@@ -20,7 +20,7 @@ use Rattle.state.specs.Loading.{LoadsSheet}
 use Rattle.state.specs.State.{Kept, complete, fresh_ledger, kept, lengths_of, sheet_of}
 use Rattle.state.specs.declared.ledger.Ledger.{Ledger}
 use Rattle.state.specs.declared.load.Loaded.{Loaded}
-use Rattle.state.specs.declared.load.Taken.{Taken}
+use Rattle.state.specs.Loading.{Taken}
 use Rattle.sums.specs.Test.{pick}
 
 -- ---- loading
@@ -35,9 +35,9 @@ sheet_with s b S = pick (eqb (kind_due s) 2) (with_balances s b) (pick (eqb (kin
 
 -- after a call with this answer at a frame of body b: only a frame that was taken adds to it
 abbrev pub sheet_after : Loading → List ℕ → Sheet → Taken → Sheet
-sheet_after s b S (Taken.Next end) = sheet_with s b S
-sheet_after s b S (Taken.Refused r) = S
-sheet_after s b S Taken.Complete = S
+sheet_after s b S (Ok (Some end)) = sheet_with s b S
+sheet_after s b S (Err r) = S
+sheet_after s b S (Ok None) = S
 
 -- two buffers that hold the same as far as n; their lengths, and what lies behind, may differ
 abbrev pub SameFront : ℕ → List ℕ → List ℕ → Type 0

@@ -1,5 +1,6 @@
 -- A block's body, written and read back; and read and written again.
 -- Assumes nothing.
+use Rattle.std.proofs.Common.{Ok}
 use Prim.Native.Nat.{◌*◌, ◌+◌, ◌<◌, ◌≤◌, ℕ}
 use borrow.Author.Tests.{eqb-true, lt-ltb, ltb-true}
 use lib.Dec.{eqb, ltb}
@@ -24,7 +25,6 @@ use Rattle.sums.proofs.TestLaws.{all_to_each, all_to_true, took}
 use Rattle.sums.specs.Seq.{tabulate}
 use Rattle.sums.specs.Test.{pick}
 use Rattle.frames.specs.declared.block.Block.{Block}
-use Rattle.refusals.specs.declared.Checked.TheVariants.{Fine}
 
 -- one number of a list
 number-back : (l post : List ℕ) (k : ℕ) → ((i : ℕ) → i < length l → get_or l i 0 < 65536) → k < length l → le 2 (numbers_bytes l ++ post) (2 * k) ≡ get_or l k 0
@@ -126,7 +126,7 @@ module _ (s : List ℕ) (m : ℕ) (b : AreBytes s) (small : m ≤ 16) (long : le
       (assemble s _ _ _ m (le 2 s 8) (fixed_forth s b (omega arith)) cut-forth (numbers-forth 2 (le 2 s 8) (10 + 2 * m) s b (omega arith)) long)
 
 -- a body that was written is fine
-pub block_written : (m : ℕ) (b : Block) (cites : List ℕ) (at : ℕ) → BlockFits b cites → length cites ≤ 32 → check_block (block_body m b cites) at m ≡ Fine
+pub block_written : (m : ℕ) (b : Block) (cites : List ℕ) (at : ℕ) → BlockFits b cites → length cites ≤ 32 → check_block (block_body m b cites) at m ≡ Ok tt
 block_written m b cites at fits few =
     let n = length-block m b cites in
     let c = count-back m b cites fits few in

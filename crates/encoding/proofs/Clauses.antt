@@ -5,8 +5,8 @@ use lib.ListN.{length}
 use mathlib.Core.List.{List}
 use mathlib.Core.Path.{◌≡◌}
 use Rattle.encoding.specs.Writing.{Wrote, answer_of, buffer_of}
-use Rattle.encoding.specs.declared.emit.Written.{Written}
-use Rattle.refusals.specs.declared.Checked.{Checked}
+use Rattle.encoding.specs.Writing.{Written}
+use Rattle.refusals.specs.Refusals.{Checked}
 
 module _ {checked : Checked} {frame before after : List ℕ} {answer : Written} (p : Wrote checked frame before after answer) where
   -- the answer is fixed by the values and the room

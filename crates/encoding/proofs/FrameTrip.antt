@@ -11,8 +11,7 @@ use Rattle.encoding.specs.Body.{frame_bytes}
 use Rattle.fields.proofs.NumberLaws.{AreBytes-drop, le-after, le_of_bytes, le_skip, length-le_bytes, piece, take-bytes}
 use Rattle.fields.specs.Number.{AreBytes, le, le_bytes}
 use Rattle.frames.proofs.FrameLaws.{frame_is, frame-whole}
-use Rattle.frames.specs.Frame.{between, body_at, frame_at}
-use Rattle.frames.specs.declared.frame.Framed.TheVariants.{Whole}
+use Rattle.frames.specs.Frame.{between, body_at, frame_at, whole_frame}
 
 module _ (pre : List ℕ) (kind : ℕ) (body post : List ℕ) (small : kind < 65536) (short : length body ≤ 8192) where
   abbrev X : List ℕ
@@ -33,7 +32,7 @@ module _ (pre : List ℕ) (kind : ℕ) (body post : List ℕ) (small : kind < 65
       let four = length-le_bytes 4 (2 + length body) in
       le_skip 2 pre _ 4 ∙ (rw four at (le-after 2 (le_bytes 4 (2 + length body)) (le_bytes 2 kind ++ (body ++ post)))) ∙ le_of_bytes 2 kind _ small
 
-  framed : frame_at X (length pre) ≡ Whole kind (length pre + 6) (length pre + 6 + length body)
+  framed : frame_at X (length pre) ≡ whole_frame kind (length pre + 6) (length pre + 6 + length body)
   framed =
       let n = length-placed in
       let l = length-field in
@@ -42,7 +41,7 @@ module _ (pre : List ℕ) (kind : ℕ) (body post : List ℕ) (small : kind < 65
       let ends : length pre + 4 + (2 + length body) ≡ length pre + 6 + length body = omega arith in
       e ∙ rw (k, l, ends) refl
 
-  pub frame-written : frame_at (pre ++ (frame_bytes kind body ++ post)) (length pre) ≡ Whole kind (length pre + 6) (length pre + 6 + length body)
+  pub frame-written : frame_at (pre ++ (frame_bytes kind body ++ post)) (length pre) ≡ whole_frame kind (length pre + 6) (length pre + 6 + length body)
   frame-written = rw placed framed
 
   body-placed : body_at X (length pre) ≡ body
@@ -61,7 +60,7 @@ three_pieces r at run =
     let last : drop 2 (drop (at + 4) run) ≡ drop (at + 6) run = drop-drop 2 (at + 4) run ∙ ap (λ (n : ℕ). drop n run) (add_assoc at 4 2) in
     take-add 4 (2 + r) (drop at run) ∙ rw (drop-drop 4 at run, take-add 2 r (drop (at + 4) run), last) refl
 
-module _ {k start end : ℕ} (run : List ℕ) (at : ℕ) (b : AreBytes run) (f : frame_at run at ≡ Whole k start end) where
+module _ {k start end : ℕ} (run : List ℕ) (at : ℕ) (b : AreBytes run) (f : frame_at run at ≡ whole_frame k start end) where
   -- a frame that was read, written again
   pub written_again : take (end - at) (drop at run) ≡ frame_bytes k (between run start end)
   unfolding frame_bytes

@@ -1,5 +1,6 @@
 -- The theorem `one-writing`: for each of the four kinds, what is written is read back, what is read is written again, and so equal contents have equal bytes.
 -- Assumes nothing.
+use Rattle.std.proofs.Common.{Ok}
 use Prim.Native.Nat.{◌*◌, ◌+◌, ◌-◌, ◌<◌, ◌≤◌, ℕ}
 use lib.ListN.{drop, length, take}
 use mathlib.Core.Bool.{true}
@@ -24,29 +25,27 @@ use Rattle.frames.proofs.HeaderLaws.{header_checked, header_fine}
 use Rattle.frames.proofs.StepLaws.{differ, judged-balances, judged-block, judged-header, judged-transaction, step-take, took_due, took_judged}
 use Rattle.frames.specs.Balances.{balances_of, check_balances}
 use Rattle.frames.specs.Block.{block_of, check_block, cites_of, cut_of}
-use Rattle.frames.specs.Frame.{body_at, frame_at}
+use Rattle.frames.specs.Frame.{body_at, frame_at, whole_frame}
 use Rattle.frames.specs.Header.{header_of}
 use Rattle.frames.specs.Step.{after_check, judged, kind_due, loading_after}
 use Rattle.transactions.proofs.BodyLaws.{judged_anywhere, transaction_checked, transaction_fine}
 use Rattle.transactions.specs.Body.{transaction_of}
 use Rattle.transactions.specs.Check.{check_transaction}
 use Rattle.frames.specs.declared.block.Block.{Block}
-use Rattle.frames.specs.declared.frame.Framed.TheVariants.{Whole}
 use Rattle.frames.specs.declared.step.Loading.{Loading}
-use Rattle.refusals.specs.declared.Checked.TheVariants.{Fine}
 
 -- what a kind has to supply: of bodies alone
 record Supplies (s : Loading) (K : Kind) : Type 0 where
   small : K.number < 65536
-  due : (v : K.Content) → K.verdict v ≡ Fine → kind_due s ≡ K.number
-  short : (v : K.Content) → K.verdict v ≡ Fine → length (K.body v) ≤ 8192
-  back : (v : K.Content) → K.Fits v → K.verdict v ≡ Fine → K.says (K.body v) ≡ v
-  fine : (v : K.Content) (at : ℕ) → K.Fits v → K.verdict v ≡ Fine → judged s K.number (K.body v) at ≡ Fine
-  writable : (b : List ℕ) (at : ℕ) → kind_due s ≡ K.number → judged s K.number b at ≡ Fine → K.verdict (K.says b) ≡ Fine
-  forth : (b : List ℕ) (at : ℕ) → AreBytes b → kind_due s ≡ K.number → judged s K.number b at ≡ Fine → K.body (K.says b) ≡ b
+  due : (v : K.Content) → K.verdict v ≡ Ok tt → kind_due s ≡ K.number
+  short : (v : K.Content) → K.verdict v ≡ Ok tt → length (K.body v) ≤ 8192
+  back : (v : K.Content) → K.Fits v → K.verdict v ≡ Ok tt → K.says (K.body v) ≡ v
+  fine : (v : K.Content) (at : ℕ) → K.Fits v → K.verdict v ≡ Ok tt → judged s K.number (K.body v) at ≡ Ok tt
+  writable : (b : List ℕ) (at : ℕ) → kind_due s ≡ K.number → judged s K.number b at ≡ Ok tt → K.verdict (K.says b) ≡ Ok tt
+  forth : (b : List ℕ) (at : ℕ) → AreBytes b → kind_due s ≡ K.number → judged s K.number b at ≡ Ok tt → K.body (K.says b) ≡ b
 
 module _ (s : Loading) (K : Kind) (supplies : Supplies s K) where
-  written_back : (v : K.Content) (pre post : List ℕ) → K.Fits v → K.verdict v ≡ Fine
+  written_back : (v : K.Content) (pre post : List ℕ) → K.Fits v → K.verdict v ≡ Ok tt
       → Reads s K (pre ++ (writing K v ++ post)) (length pre) (length pre + length (writing K v)) v
   written_back v pre post fits ok =
       let b = K.body v in
@@ -55,8 +54,8 @@ module _ (s : Loading) (K : Kind) (supplies : Supplies s K) where
       let short = supplies.short v ok in
       let body = body-written pre K.number b post supplies.small short in
       let ends : length pre + length (writing K v) ≡ length pre + 6 + length b = omega (arith, length-frame K.number b) in
-      let framed : frame_at run at ≡ Whole K.number (at + 6) (at + length (writing K v)) = rw ends (frame-written pre K.number b post supplies.small short) in
-      let judge : judged s K.number (body_at run at) at ≡ Fine = ap (λ (x : List ℕ). judged s K.number x at) body ∙ supplies.fine v at fits ok in
+      let framed : frame_at run at ≡ whole_frame K.number (at + 6) (at + length (writing K v)) = rw ends (frame-written pre K.number b post supplies.small short) in
+      let judge : judged s K.number (body_at run at) at ≡ (Ok tt) = ap (λ (x : List ℕ). judged s K.number x at) body ∙ supplies.fine v at fits ok in
       record {
         framed = framed;
         taken = step-take run at s framed (sym (supplies.due v ok)) ∙ ap (after_check (loading_after s K.number (body_at run at)) (at + length (writing K v))) judge;
@@ -67,11 +66,11 @@ module _ (s : Loading) (K : Kind) (supplies : Supplies s K) where
     read-due : kind_due s ≡ K.number
     read-due = sym (took_due s run at (loading_after s K.number (body_at run at)) end r.framed r.taken)
 
-    read-judged : judged s K.number (body_at run at) at ≡ Fine
+    read-judged : judged s K.number (body_at run at) at ≡ Ok tt
     read-judged =
         ap (λ (k : ℕ). judged s k (body_at run at) at) (sym read-due) ∙ (took_judged s run at (loading_after s K.number (body_at run at)) end r.taken).0
 
-    read-writable : K.verdict v ≡ Fine
+    read-writable : K.verdict v ≡ Ok tt
     read-writable = ap K.verdict (sym r.content) ∙ supplies.writable (body_at run at) at read-due read-judged
 
     read-forth : AreBytes run → take (end - at) (drop at run) ≡ writing K v
@@ -118,7 +117,7 @@ module _ (s : Loading) where
     forth = λ b at bytes due e. balances-forth s.a b bytes (balances_checked b at s.a (sym (by_balances b at) ∙ e)).0;
   }
     where
-      read_back : (l : List ℕ) → BalancesFit l → balances_verdict s l ≡ Fine → balances_of s.a (balances_body l) ≡ l
+      read_back : (l : List ℕ) → BalancesFit l → balances_verdict s l ≡ Ok tt → balances_of s.a (balances_body l) ≡ l
       read_back l fits e = ap (λ (n : ℕ). balances_of n (balances_body l)) (sym (balances-verdict s l e).long) ∙ balances-back l fits
 
   by_transaction : (b : List ℕ) (at : ℕ) → judged s 3 b at ≡ check_transaction b at s.a s.g
@@ -145,7 +144,8 @@ module _ (s : Loading) where
     small = omega arith;
     due = λ c e. (verdict-of c e).due;
     short = λ c e. omega (arith, length-block s.m c.block c.cites, instances_at s (verdict-of c e).due, (verdict-of c e).few);
-    back = λ c fits e. same (block_back s.m c.block c.cites fits (verdict-of c e).few (instances_at s (verdict-of c e).due) (verdict-of c e).zeros) (cites-back s.m c.block c.cites fits (verdict-of c e).few);
+    back = λ c fits e. let v = verdict-of c e in
+        same (block_back s.m c.block c.cites fits v.few (instances_at s v.due) v.zeros) (cites-back s.m c.block c.cites fits v.few);
     fine = λ c at fits e. by_block (block_body s.m c.block c.cites) at ∙ block_written s.m c.block c.cites at fits (verdict-of c e).few;
     writable = λ b at due e. let k = block_checked b at s.m (sym (by_block b at) ∙ e) in
         block-verdict_is s (cut_of b s.m) (length (cites_of b s.m)) (length (cites_of b s.m))
@@ -153,7 +153,7 @@ module _ (s : Loading) where
     forth = λ b at bytes due e. block-forth b s.m bytes (instances_at s due) (block_checked b at s.m (sym (by_block b at) ∙ e)).long;
   }
     where
-      verdict-of : (c : BlockContent) → block_verdict s c.block.cut (length c.cites) (length c.cites) ≡ Fine → BlockVerdict s c.block.cut (length c.cites) (length c.cites)
+      verdict-of : (c : BlockContent) → block_verdict s c.block.cut (length c.cites) (length c.cites) ≡ Ok tt → BlockVerdict s c.block.cut (length c.cites) (length c.cites)
       verdict-of c e = block-verdict s c.block.cut (length c.cites) (length c.cites) e
 
       same : {x y : Block} {l k : List ℕ} → x ≡ y → l ≡ k → ◌≡◌ {A = BlockContent} (record { block = x; cites = l }) (record { block = y; cites = k })

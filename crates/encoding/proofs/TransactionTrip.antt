@@ -1,5 +1,6 @@
 -- A transaction's body, written and read back; and read and written again.
 -- Assumes nothing.
+use Rattle.std.proofs.Common.{Ok}
 use Prim.Native.Nat.{◌*◌, ◌+◌, ◌<◌, ◌≤◌, ℕ}
 use lib.ListN.{drop, length, length-drop, take}
 use lib.Seq.{drop_at, drop-drop, get_or-drop, take_all}
@@ -22,7 +23,6 @@ use Rattle.transactions.proofs.CheckLaws.{check-judge}
 use Rattle.transactions.specs.Body.{end_due, entry_in, operation_in, transaction_of}
 use Rattle.transactions.specs.Check.{check_transaction, counts_ok, in_range, judge_transaction}
 use Rattle.transactions.specs.Content.{Entry, Operation, Transaction, entry_of, no_entry, no_operation, operation_of}
-use Rattle.refusals.specs.declared.Checked.TheVariants.{Fine}
 
 -- an element of some bytes is the first of those from it on
 entry-further : (s : List ℕ) (k : ℕ) → entry_in s k ≡ entry_in (drop (6 * k) s) 0
@@ -87,7 +87,8 @@ module _ (t : Transaction) (post : List ℕ) (sized : TransactionFits t) where
   transaction-back =
       let d = ap (λ (r : List ℕ). tabulate (length t.debits) (entry_in r)) after-counts ∙ entries-back t.debits _ sized.payer sized.debit in
       let c = ap (λ (r : List ℕ). tabulate (length t.credits) (entry_in r)) after-debits ∙ entries-back t.credits _ sized.payee sized.credit in
-      let o = ap (λ (r : List ℕ). tabulate (length t.operations) (operation_in r)) after-credits ∙ list_back 6 operation_bytes no_operation operation_long operation_in operation_further t.operations post
+      let o = ap (λ (r : List ℕ). tabulate (length t.operations) (operation_in r)) after-credits
+      ∙ list_back 6 operation_bytes no_operation operation_long operation_in operation_further t.operations post
       (λ k rest lt. operation_back (operation_of t.operations k) rest (sized.value k lt)) in
       same d c o
     where
@@ -129,7 +130,7 @@ transaction-forth (w ∷ x ∷ y ∷ z ∷ s) b h e =
     (ap (λ (r : List ℕ). w ∷ x ∷ y ∷ z ∷ r) (lists-forth (w ∷ x ∷ y ∷ z ∷ s) x y z b e))
 
 -- a fine transaction is short
-pub short-transaction : (a g : ℕ) (t : Transaction) → judge_transaction 0 a g t ≡ Fine → length (transaction_body t) ≤ 8192
+pub short-transaction : (a g : ℕ) (t : Transaction) → judge_transaction 0 a g t ≡ Ok tt → length (transaction_body t) ≤ 8192
 unfolding judge_transaction in_range
 short-transaction a g t e =
     let r = held (in_range a g t) _ e in

@@ -1,5 +1,6 @@
 -- Which answer a writer gives, and what it leaves in the buffer.
 -- Assumes nothing.
+use Rattle.std.proofs.Common.{Ok, Err}
 use Prim.Native.Nat.{◌+◌, ◌<◌, ◌≤◌, ℕ}
 use borrow.Author.Tests.{le-ltb, lt-ltb}
 use lib.ListN.{drop, length, length-append}
@@ -14,8 +15,8 @@ use Rattle.fields.proofs.NumberLaws.{length-le_bytes}
 use Rattle.fields.proofs.StoreLaws.{sets_then}
 use Rattle.fields.specs.Number.{le_bytes, store_number}
 use Rattle.sums.proofs.TestLaws.{passed, took}
-use Rattle.encoding.specs.declared.emit.Written.{Written}
-use Rattle.refusals.specs.declared.Checked.{Checked}
+use Rattle.encoding.specs.Writing.{Written}
+use Rattle.refusals.specs.Refusals.{Checked}
 use Rattle.refusals.specs.declared.Refusal.{Refusal}
 use Rattle.refusals.specs.declared.Refusal.TheVariants.{BodyLength, BufferShort}
 
@@ -36,42 +37,42 @@ module _ (kind : ℕ) (body out : List ℕ) where
       (sets-eq (frame_bytes kind body) out 0 (omega arith) ∙ ap (λ (i : ℕ). frame_bytes kind body ++ drop i out) all))
 
   pub emit_short : length out < 6 + length body
-      → Wrote Checked.Fine (frame_bytes kind body) out out (Written.Refused (BufferShort (6 + length body)))
+      → Wrote (Ok tt) (frame_bytes kind body) out out (Err (BufferShort (6 + length body)))
   emit_short h =
       let t = lt-ltb (length out) (6 + length body) h in
       record { answers = rw length-frame (sym (took _ t refl)); buffer = rw length-frame (sym (took _ t refl)) }
 
   pub emit_whole : {l : List ℕ} → 6 + length body ≤ length out → l ≡ sets (store_number 2 (store_number 4 out 0 (2 + length body)) 4 kind) 6 body
-      → Wrote Checked.Fine (frame_bytes kind body) out l (Written.Bytes (6 + length body))
+      → Wrote (Ok tt) (frame_bytes kind body) out l (Ok (6 + length body))
   unfolding store_number
   emit_whole h q =
       let t = le-ltb (length out) (6 + length body) h in
       record { answers = rw length-frame (sym (passed _ t refl)); buffer = rw length-frame (q ∙ stores h ∙ sym (passed _ t refl)) }
 
 -- a refusal is the answer, and the buffer keeps what it had
-pub refused-answer : {v : Checked} {r : Refusal} (bytes out : List ℕ) → v ≡ Checked.Refused r → Wrote v bytes out out (Written.Refused r)
+pub refused-answer : {v : Checked} {r : Refusal} (bytes out : List ℕ) → v ≡ Err r → Wrote v bytes out out (Err r)
 refused-answer bytes out e = rw e (record { answers = refl; buffer = refl })
 
 -- the verdict on a body that a frame can hold
 pub bounded_is : (v : Checked) (b : List ℕ) → length b ≤ 8192 → bounded v b ≡ v
-bounded_is Checked.Fine b h = passed _ (le-ltb _ _ h) refl
-bounded_is (Checked.Refused r) b h = refl
+bounded_is (Ok _) b h = passed _ (le-ltb _ _ h) refl
+bounded_is (Err r) b h = refl
 
 module _ (kind : ℕ) (body out : List ℕ) where
-  pub emitted_long : 8192 < length body → Wrote (bounded Checked.Fine body) (frame_bytes kind body) out out (Written.Refused (BodyLength 0))
+  pub emitted_long : 8192 < length body → Wrote (bounded (Ok tt) body) (frame_bytes kind body) out out (Err (BodyLength 0))
   emitted_long h = refused-answer (frame_bytes kind body) out (took _ (lt-ltb _ _ h) refl)
 
   module _ (small : length body ≤ 8192) where
-    pub emitted-short : length out < 6 + length body → Wrote (bounded Checked.Fine body) (frame_bytes kind body) out out (Written.Refused (BufferShort (6 + length body)))
-    emitted-short h = rw (bounded_is Checked.Fine body small) (emit_short kind body out h)
+    pub emitted-short : length out < 6 + length body → Wrote (bounded (Ok tt) body) (frame_bytes kind body) out out (Err (BufferShort (6 + length body)))
+    emitted-short h = rw (bounded_is (Ok tt) body small) (emit_short kind body out h)
 
     pub emitted-whole : {l : List ℕ} → 6 + length body ≤ length out → l ≡ sets (store_number 2 (store_number 4 out 0 (2 + length body)) 4 kind) 6 body
-        → Wrote (bounded Checked.Fine body) (frame_bytes kind body) out l (Written.Bytes (6 + length body))
-    emitted-whole h q = rw (bounded_is Checked.Fine body small) (emit_whole kind body out h q)
+        → Wrote (bounded (Ok tt) body) (frame_bytes kind body) out l (Ok (6 + length body))
+    emitted-whole h q = rw (bounded_is (Ok tt) body small) (emit_whole kind body out h q)
 
 -- a frame that was put out by a verdict, and of a body, that are the ones meant
-pub finished : {v w : Checked} {x b : List ℕ} {r : Written} {l : List ℕ} (kind : ℕ) (out : List ℕ) → v ≡ w → x ≡ b → length b ≤ 8192
+pub finished : {v w : Checked} {x b : List ℕ} {r : Written} {l : List ℕ} (kind : ℕ) (out : List ℕ) → w ≡ v → x ≡ b → length b ≤ 8192
     → Wrote (bounded v x) (frame_bytes kind x) out l r → Wrote w (frame_bytes kind b) out l r
 finished {v} {w} {x} {b} {r} {l} kind out p q h e =
-    let f : Wrote (bounded w b) (frame_bytes kind b) out l r = rw (← p, ← q) e in
-    rw (bounded_is w b h) at f
+    let f : Wrote (bounded v b) (frame_bytes kind b) out l r = rw (← q) e in
+    rw p (rw (bounded_is v b h) at f)

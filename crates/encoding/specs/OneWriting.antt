@@ -1,24 +1,21 @@
 -- Demand 2, "each content has one writing": the statement that the theorem `one-writing` of proofs/ proves.
 -- Assumes nothing.
-use Rattle.std.specs.Prelude.{◌+◌, ◌-◌, ℕ, drop, length, take, true, List, ◌++◌, ◌≡◌}
+use Rattle.std.specs.Prelude.{◌+◌, ◌-◌, ℕ, drop, length, take, true, List, ◌++◌, ◌≡◌, Ok}
 use Rattle.encoding.specs.Body.{balances_body, block_body, frame_bytes, header_body, transaction_body}
 use Rattle.encoding.specs.Fits.{BalancesFit, BlockFits, HeaderFits, TransactionFits}
 use Rattle.encoding.specs.Verdict.{balances_verdict, block_verdict, header_verdict, transaction_verdict}
 use Rattle.fields.specs.Number.{AreBytes}
 use Rattle.frames.specs.Balances.{balances_of}
 use Rattle.frames.specs.Block.{block_of, cites_of}
-use Rattle.frames.specs.Frame.{body_at, frame_at}
+use Rattle.frames.specs.Frame.{body_at, frame_at, whole_frame}
 use Rattle.frames.specs.Header.{header_of}
-use Rattle.frames.specs.Step.{loading_after, step_at}
+use Rattle.frames.specs.Step.{loading_after, step_at, taken_step}
 use Rattle.transactions.specs.Body.{transaction_of}
 use Rattle.transactions.specs.Content.{Transaction}
 use Rattle.frames.specs.declared.block.Block.{Block}
-use Rattle.frames.specs.declared.frame.Framed.TheVariants.{Whole}
 use Rattle.frames.specs.declared.header.Header.{Header}
 use Rattle.frames.specs.declared.step.Loading.{Loading}
-use Rattle.frames.specs.declared.step.Step.TheVariants.{Took}
-use Rattle.refusals.specs.declared.Checked.{Checked}
-use Rattle.refusals.specs.declared.Checked.TheVariants.{Fine}
+use Rattle.refusals.specs.Refusals.{Checked}
 
 -- A kind of frame, with the sheet so far: its number, what a body says, the body of a content, the writer's verdict on a content, and the contents that its numbers' types can hold
 pub record Kind : Type 1 where
@@ -35,17 +32,17 @@ writing K v = frame_bytes K.number (K.body v)
 
 -- With the sheet so far, the reader takes a frame of this kind at an offset of a run; it ends at end, and says v
 pub record Reads (s : Loading) (K : Kind) (run : List ℕ) (at end : ℕ) (v : K.Content) : Type 0 where
-  pub framed : frame_at run at ≡ Whole K.number (at + 6) end
-  pub taken : step_at run at s ≡ Took (loading_after s K.number (body_at run at)) end
+  pub framed : frame_at run at ≡ whole_frame K.number (at + 6) end
+  pub taken : step_at run at s ≡ taken_step (loading_after s K.number (body_at run at)) end
   pub content : K.says (body_at run at) ≡ v
 
 -- back: what a writer writes is read as what was written, at any offset and whatever stands before and after it.
 -- writable, forth: what is read as a content is one that the writer takes, and has exactly the bytes of its writing.
 -- alike: so two frames with equal content are equal
 pub record OneWriting (s : Loading) (K : Kind) : Type 0 where
-  pub back : (v : K.Content) (pre post : List ℕ) → K.Fits v → K.verdict v ≡ Fine
+  pub back : (v : K.Content) (pre post : List ℕ) → K.Fits v → K.verdict v ≡ Ok tt
       → Reads s K (pre ++ (writing K v ++ post)) (length pre) (length pre + length (writing K v)) v
-  pub writable : (run : List ℕ) (at end : ℕ) (v : K.Content) → Reads s K run at end v → K.verdict v ≡ Fine
+  pub writable : (run : List ℕ) (at end : ℕ) (v : K.Content) → Reads s K run at end v → K.verdict v ≡ Ok tt
   pub forth : (run : List ℕ) (at end : ℕ) (v : K.Content) → AreBytes run → Reads s K run at end v → take (end - at) (drop at run) ≡ writing K v
   pub alike : (run other : List ℕ) (at end at' end' : ℕ) (v : K.Content) → AreBytes run → AreBytes other → Reads s K run at end v → Reads s K other at' end' v
       → take (end - at) (drop at run) ≡ take (end' - at') (drop at' other)

@@ -1,22 +1,22 @@
 -- Amounts and outcomes, from the cells.
 -- Assumes nothing.
 use Prim.Native.Nat.{◌*◌, ◌+◌, ◌-◌, ◌<◌, ◌≤◌, ℕ}
-use borrow.Author.Tests.{eq-eqb, eqb-false, eqb-true, ne_eqb}
+use borrow.Author.Tests.{eq-eqb, ne_eqb}
 use lib.Dec.{eqb, leb}
 use lib.ListN.{drop, get_or, length}
-use mathlib.Core.Bool.{Bool, false, true}
+use mathlib.Core.Bool.{Bool, false, not, true}
 use mathlib.Core.List.{List, []}
 use mathlib.Core.Path.{◌∙◌, ◌≡◌, ap, ap₂, fun_ext, refl, sym}
 use native.Mathlib.Omega.{arith}
-use Rattle.escrow.specs.Amounts.{covered_by, credited, debit_at, free, free_by, held, held_by, is_paid, is_pending, part_good, reserved}
+use Rattle.std.specs.Int.{from_bool}
+use Rattle.escrow.specs.Amounts.{covered_by, credited, debit_at, free, free_by, held, held_by, is_paid, part_good, reserved}
 use Rattle.escrow.specs.Cells.{free_in, good_in, held_in}
 use Rattle.escrow.specs.Inner.{debit_good, debits_out, out_at, takes}
 use Rattle.transactions.specs.Content.{Entry, Transaction, entry_of, no_entry}
 use Rattle.transactions.specs.Body.{entry_in, transaction_of}
 use Rattle.ordering.specs.Table.{count_in}
-use Rattle.settlement.proofs.StatusCells.{of_open, of_paid, of_returned}
 use Rattle.settlement.specs.Cells.{rows_in}
-use Rattle.settlement.specs.Books.{Status, paid}
+use Rattle.settlement.specs.Books.{Status}
 use Rattle.settlement.specs.Settlement.{status}
 use Rattle.settlement.specs.Tables.{status_in, status_of}
 use Rattle.settlement.specs.View.{Rows}
@@ -25,45 +25,10 @@ use Rattle.sheets.specs.Parts.{amount_on, home}
 use Rattle.sheets.specs.Sheet.{Sheet, balance, sheet_in, slot, tx_at, tx_count}
 use Rattle.sums.proofs.LoopLaws.{all_to-none}
 use Rattle.sums.proofs.SeqLaws.{tabulate_each}
-use Rattle.sums.proofs.TestLaws.{all_to_ext, given_false, given_true, pick-false, pick_same, pick_true}
+use Rattle.sums.proofs.TestLaws.{all_to_ext, given_false, given_true, pick-false, pick_true}
 use Rattle.sums.specs.Sum.{sum_to}
 use Rattle.sums.specs.Test.{all_to, flip, given, pick}
 use Rattle.sheets.specs.declared.sheet.Sizes.{Sizes}
-
-module _ (all : Bool) (n : ℕ) where
-  pub takes_open : n ≡ 0 → true ≡ takes all (status_of n)
-  unfolding takes
-  takes_open h = sym (ap (takes all) (of_open n h) ∙ pick_same all true)
-
-  pub takes-paid : (n ≡ 0 → ⊥) → n ≡ 1 → all ≡ takes all (status_of n)
-  unfolding takes pick
-  takes-paid h e = go all ∙ sym (ap (takes all) (of_paid n h e))
-    where
-      go : (u : Bool) → u ≡ takes u paid
-      go true = refl
-      go false = refl
-
-  pub takes_none : (n ≡ 0 → ⊥) → (n ≡ 1 → ⊥) → false ≡ takes all (status_of n)
-  unfolding takes
-  takes_none h e = sym (ap (takes all) (of_returned n h e) ∙ pick_same all false)
-
-pub is-paid : (n : ℕ) → n ≡ 1 → is_paid (status_of n) ≡ true
-is-paid n e = ap is_paid (of_paid n (λ (q : n ≡ 0). omega (arith, q)) e)
-
-pub not_paid : (n : ℕ) → (n ≡ 1 → ⊥) → is_paid (status_of n) ≡ false
-not_paid n h = go (eqb n 0) refl
-  where
-    go : (b : Bool) → eqb n 0 ≡ b → is_paid (status_of n) ≡ false
-    go true e = ap is_paid (of_open n (eqb-true n 0 e))
-    go false e = ap is_paid (of_returned n (eqb-false n 0 e) h)
-
--- what a paid transaction gives
-module _ (z : Sizes) (table : List ℕ) (x n v : ℕ) (e : status_of n ≡ status_in z table x) where
-  pub credit-paid : (w : ℕ) → w ≡ v → n ≡ 1 → w ≡ given (is_paid (status_in z table x)) v
-  credit-paid w q h = q ∙ sym (given_true _ _ (sym (ap is_paid e) ∙ is-paid n h))
-
-  pub credit_unpaid : (n ≡ 1 → ⊥) → 0 ≡ given (is_paid (status_in z table x)) v
-  credit_unpaid h = sym (given_false _ _ (sym (ap is_paid e) ∙ not_paid n h))
 
 -- what a citation takes
 module _ (b : List ℕ) (z : Sizes) (ranks cites good table : List ℕ) (all : Bool) (h k p : ℕ) (g : Bool) (eg : g ≡ eqb (get_or good (h * 4096 + p) 0) 1) where
@@ -176,17 +141,15 @@ module _ (b : List ℕ) (z : Sizes) (ranks cites good view table : List ℕ)
 pub credits_end : (b : List ℕ) (z : Sizes) (st : ℕ → Status) (k n x : ℕ) → x ≤ z.t → z.t ≤ x
     → n ≡ sum_to x (λ y. given (is_paid (st y)) (amount_on (tx_at (sheet_in b z) y).credits k)) → n ≡ credited (sheet_in b z) st k
 unfolding credited
-credits_end b z st k n x l u e = e ∙ ap (λ (c : ℕ). sum_to c (λ y. given (is_paid (st y)) (amount_on (tx_at (sheet_in b z) y).credits k))) {x = x} {y = tx_count (sheet_in b z)} (omega (arith, sheet-count b z))
+credits_end b z st k n x l u e = e ∙ ap (λ (c : ℕ). sum_to c (λ y. given (is_paid (st y)) (amount_on (tx_at (sheet_in b z) y).credits k))) {x = x} {y = tx_count (sheet_in b z)}
+    (omega (arith, sheet-count b z))
 
 -- ---- the share
 
-module _ (z : Sizes) (table : List ℕ) (x n : ℕ) (e : status_of n ≡ status_in z table x) where
-  pub bit-pending : n ≡ 0 → 0 ≡ flip (is_pending (status_in z table x))
-  bit-pending h = sym (ap (λ (s : Status). flip (is_pending s)) (sym e ∙ of_open n h))
-
-  pub bit-settled : (n ≡ 0 → ⊥) → 1 ≡ flip (is_pending (status_in z table x))
-  bit-settled h = go (eqb n 1) refl
-    where
-      go : (b : Bool) → eqb n 1 ≡ b → 1 ≡ flip (is_pending (status_in z table x))
-      go true q = sym (ap (λ (s : Status). flip (is_pending s)) (sym e ∙ of_paid n h (eqb-true n 1 q)))
-      go false q = sym (ap (λ (s : Status). flip (is_pending s)) (sym e ∙ of_returned n h (eqb-false n 1 q)))
+-- 1 where a status is not open
+pub bit_so : {p u : Bool} → p ≡ u → (r : ℕ) → r ≡ from_bool (not p) → (r ≡ flip u) × (r ≤ 1)
+bit_so {p} {u} e r q = rw (← e) (counted p r q)
+  where
+    counted : (p : Bool) (r : ℕ) → r ≡ from_bool (not p) → (r ≡ flip p) × (r ≤ 1)
+    counted true r q = (q, omega (arith, q))
+    counted false r q = (q, omega (arith, q))

@@ -44,7 +44,8 @@ module _ (S : Sheet) (some : 0 < S.m) (v v' : View) (R R' : Rows) (same : Same S
 
   pub part_good_same : (j x : ℕ) → part_good S R v j x ≡ part_good S R' v' j x
   unfolding part_good covered_by
-  part_good_same j x = all_to_ext _ _ _ (λ i l. ap (λ (f : ℕ). pick (eqb (home S (entry_of (tx_at S x).debits i).account) j) (leb (entry_of (tx_at S x).debits i).amount f) true) (free_same (entry_of (tx_at S x).debits i).account))
+  part_good_same j x = all_to_ext _ _ _ (λ i l. ap (λ (f : ℕ). pick (eqb (home S (entry_of (tx_at S x).debits i).account) j) (leb (entry_of (tx_at S x).debits i).amount f)
+      true) (free_same (entry_of (tx_at S x).debits i).account))
 
 -- ---- the share depends on the settlements alone
 

@@ -89,7 +89,8 @@ module _ (S : Sheet) (Q : ProperSheet S) (H : History) (F : ProperLogs S H) wher
       (λ p l. keeps (home S k) p (home_lt S Q.some k) l) (λ p l g. judged k p l g)
 
   whole : (x : ℕ) → x < tx_count S → is_paid (status_all S H x) ≡ true → (k : ℕ)
-      → sum_to (full_view H (home S k)) (λ p. given ((rows_all S H).good (home S k) p) (given (eqb ((rows_all S H).cell (home S k) p) x) (amount_on (tx_at S x).debits k))) ≡ amount_on (tx_at S x).debits k
+      → sum_to (full_view H (home S k)) (λ p. given ((rows_all S H).good (home S k) p) (given (eqb ((rows_all S H).cell (home S k) p) x) (amount_on (tx_at S x).debits k))) ≡
+      amount_on (tx_at S x).debits k
   unfolding status_all
   whole x l e k =
       booked-once S (rows_all S H) (full_view H) (full_once S Q.some H H F F (itself S H)) x l
@@ -113,7 +114,12 @@ module _ (S : Sheet) (Q : ProperSheet S) (H : History) (F : ProperLogs S H) wher
 
   view_once : (j p : ℕ) → j < S.m → p < H.height j * 32 → Once S (rows_all S H) (view_of H j p)
   view_once j p l u x i t k =
-      omega (arith, full_once S Q.some H H F F (itself S H) x i t k, sum_mono (view_of H j p i) (full_view H i) (λ q. is_cite x (event_at (rows_all S H) i q)) (unfold full_view in view_inside S H F j p i l u k))
+      omega (
+        arith,
+        full_once S Q.some H H F F (itself S H) x i t k,
+        sum_mono (view_of H j p i) (full_view H i) (λ q. is_cite x (event_at (rows_all S H) i q))
+            (unfold full_view in view_inside S H F j p i l u k),
+      )
 
   -- nor is it cut off where a part is judged: in a citation's view, for the accounts of its instance
   view_grown_own : (j q p i : ℕ) → j < S.m → q ≤ p → p < H.height j * 32 → i < S.m → view_of H j q i ≤ view_of H j p i

@@ -7,5 +7,5 @@ pub fn cut_at(cuts: &[u16], i: u16, n: u16, e: u16) -> u16
     ensures { result ≡ cut_in cuts.now i n e }
 {
     let at = ((i as usize) * 128 + (n as usize)) * 16 + (e as usize);
-    if at < cuts.len() { cuts[at] } else { 0 }
+    cuts.get(at).copied().unwrap_or(0)
 }

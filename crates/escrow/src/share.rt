@@ -6,21 +6,29 @@ ghost use Rattle.settlement.specs.Tables.{status_in};
 ghost use Rattle.sums.specs.Test.{flip};
 
 use settlement::settle::status_at;
+use settlement::status::{Status, status_of};
 use sheets::sheet::Sizes;
+use std::cmp::Ordering;
+
+// Whether transaction x is open.
+fn is_open(table: &[u8], z: Sizes, x: u16) -> bool
+    ensures { result ≡ is_pending (status_in z table.now x) }
+{
+    status_of(status_at(table, z, x)) == Status::Open
+}
 
 // 1 where transaction x is settled.
 fn settled_bit(table: &[u8], z: Sizes, x: u16) -> u32
     ensures { (result ≡ flip (is_pending (status_in z table.now x))) × (result ≤ 1) }
 {
-    if status_at(table, z, x) == 0 { 0 } else { 1 }
+    u32::from(!is_open(table, z, x))
 }
 
 fn settled_count(table: &[u8], z: Sizes) -> u32
     ensures { (result ≡ settled_count z.t (status_in z table.now)) × (result ≤ z.t) }
 {
-    let t = z.t;
     let mut n: u32 = 0;
-    for x in 0..t {
+    for x in 0..z.t {
         n += settled_bit(table, z, x);
     }
     n
@@ -38,13 +46,11 @@ pub fn thousandths(s: u32, t: u32) -> u64
     let d = t as u64;
     let q = n / d;
     let twice = n % d * 2;
-    if twice < d {
-        return q;
+    match twice.cmp(&d) {
+        Ordering::Less => q,
+        Ordering::Equal => q + q % 2,
+        Ordering::Greater => q + 1,
     }
-    if d < twice {
-        return q + 1;
-    }
-    q + q % 2
 }
 
 // The share by a table's statuses; at most 1000.

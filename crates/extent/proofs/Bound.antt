@@ -1,6 +1,7 @@
 -- The text of a reading fits in 262,144 bytes: 28 for the `run` line, 33 for each frame, and 107,985 for what follows the blocks; 243,214 in all.
 -- A frame after which the output goes on is a block of at least 16 bytes, so that a run of 65,536 bytes has at most 4,096 of them, and one more that ends it.
 -- Assumes nothing.
+use Rattle.std.proofs.Common.{Ok, Err, None, Some}
 use Prim.Native.Nat.{◌*◌, ◌+◌, ◌-◌, ◌<◌, ◌≤◌, suc, zero, ℕ}
 use borrow.Author.Tests.{le-leb, leb-false, lt-leb, ltb-false, ltb-true}
 use lib.Dec.{leb, ltb}
@@ -18,7 +19,7 @@ use Rattle.fields.specs.Number.{AreBytes}
 use Rattle.frames.proofs.BlockLaws.{block_checked}
 use Rattle.frames.proofs.FrameLaws.{frame_is}
 use Rattle.frames.specs.Frame.{body_at, body_of, frame_at}
-use Rattle.frames.specs.declared.frame.Framed.{Framed}
+use Rattle.frames.specs.Frame.{Framed}
 use Rattle.plain.proofs.AnswerLaws.{refuse_pass}
 use Rattle.plain.proofs.FrameOffers.{parsed}
 use Rattle.plain.specs.Answer.{Answer, ◌then◌, accepted, first_to, no_offer, refuse, refused}
@@ -116,12 +117,12 @@ module _ (S : Sheet) (T : SheetFits S) (run : List ℕ) (bytes : AreBytes run) (
       (le-leb (refusal_number r) 7 (subst (ParsedOf at) e (parse_of S run at)).0)
 
   by_frame : (g : Framed) → frame_at run at ≡ g → 10 ≤ length (body_of g run) → (at + 16 ≤ end_of g at) × (end_of g at ≤ length run)
-  by_frame (Framed.Whole k start end) q h =
+  by_frame (Ok (Some span)) q h =
       let F = frame_is run at q in
-      let n = length-take (end - start) (drop start run) in
+      let n = length-take (span.end - span.start) (drop span.start run) in
       (omega (arith, F.starts), F.fits)
-  by_frame (Framed.Refused r) q h = absurd (omega arith)
-  by_frame Framed.End q h = absurd (omega arith)
+  by_frame (Err r) q h = absurd (omega arith)
+  by_frame (Ok None) q h = absurd (omega arith)
 
   goes_far : ends_output (answer S (history_of L) (frame_offer S run at)) ≡ false → (at + 16 ≤ end_of (frame_at run at) at) × (end_of (frame_at run at) at ≤ length run)
   goes_far e = by-parsed (parse S run at) refl

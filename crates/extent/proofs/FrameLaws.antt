@@ -1,5 +1,6 @@
 -- Refusals of a frame give its offset and a number of at most 7; the values of a frame of bytes are as wide as their fields.
 -- Assumes nothing.
+use Rattle.std.proofs.Common.{Ok, Err, Some, None}
 use Prim.Native.Nat.{◌*◌, ◌+◌, ◌-◌, ◌<◌, ◌≤◌, suc, ℕ}
 use lib.ListN.{drop, length}
 use mathlib.Core.List.{List}
@@ -13,15 +14,15 @@ use Rattle.frames.specs.Block.{check_block, cites_of}
 use Rattle.frames.specs.Frame.{body_at, body_of, frame_at}
 use Rattle.frames.specs.Header.{check_header}
 use Rattle.frames.specs.Step.{after_check, after_frame, judged, loading_after, step_at}
-use Rattle.frames.specs.declared.frame.Framed.{Framed}
+use Rattle.frames.specs.Frame.{Framed}
 use Rattle.frames.specs.declared.step.Loading.{Loading}
-use Rattle.frames.specs.declared.step.Step.{Step}
+use Rattle.frames.specs.Step.{Step}
 use Rattle.plain.proofs.FrameOffers.{parsed}
 use Rattle.plain.specs.Logs.{Values}
 use Rattle.plain.specs.Offers.{Parsed, block_of, parse, parsed_body, parsed_frame, wrong}
 use Rattle.plain.specs.Offers as offers
 use Rattle.refusals.specs.Refusals.{refusal_number, refusal_place}
-use Rattle.refusals.specs.declared.Checked.{Checked}
+use Rattle.refusals.specs.Refusals.{Checked}
 use Rattle.refusals.specs.declared.Refusal.{Refusal}
 use Rattle.sheets.specs.Sheet.{Sheet}
 use Rattle.sums.proofs.SeqLaws.{length-tabulate}
@@ -33,18 +34,18 @@ abbrev pub OfFrame : ℕ → Refusal → Type 0
 OfFrame at r = (refusal_number r ≤ 7) × (refusal_place r ≡ at)
 
 abbrev pub CheckedOf : ℕ → Checked → Type 0
-CheckedOf at Checked.Fine = Unit {0}
-CheckedOf at (Checked.Refused r) = OfFrame at r
+CheckedOf at (Ok _) = Unit {0}
+CheckedOf at (Err r) = OfFrame at r
 
 abbrev pub FramedOf : ℕ → Framed → Type 0
-FramedOf at (Framed.Whole k start end) = Unit {0}
-FramedOf at (Framed.Refused r) = OfFrame at r
-FramedOf at Framed.End = Unit {0}
+FramedOf at (Ok (Some span)) = Unit {0}
+FramedOf at (Err r) = OfFrame at r
+FramedOf at (Ok None) = Unit {0}
 
 abbrev pub StepOf : ℕ → Step → Type 0
-StepOf at (Step.Took next end) = Unit {0}
-StepOf at (Step.Refused r) = OfFrame at r
-StepOf at Step.End = Unit {0}
+StepOf at (Ok (Some (next, end))) = Unit {0}
+StepOf at (Err r) = OfFrame at r
+StepOf at (Ok None) = Unit {0}
 
 abbrev pub ParsedOf : ℕ → Parsed → Type 0
 ParsedOf at (offers.block b) = Unit {0}
@@ -89,22 +90,22 @@ module _ (b : List ℕ) (at : ℕ) where
       (λ e. by-pick (CheckedOf at) _ (λ e. transaction-of s.a s.g) (λ e. by-pick (CheckedOf at) _ (λ e. block-of s.m) (λ e. (omega arith, refl)))))
 
   after_of : (n : Loading) (end : ℕ) (c : Checked) → CheckedOf at c → StepOf at (after_check n end c)
-  after_of n end Checked.Fine h = tt
-  after_of n end (Checked.Refused r) h = h
+  after_of n end (Ok _) h = tt
+  after_of n end (Err r) h = h
 
   framed_of : (s : Loading) (f : Framed) → FramedOf at f → StepOf at (after_frame s at b f)
-  framed_of s (Framed.Whole k start end) h = by-pick (StepOf at) _ (λ e. (omega arith, refl)) (λ e. after_of (loading_after s k b) end (judged s k b at) (judged_of s k))
-  framed_of s (Framed.Refused r) h = h
-  framed_of s Framed.End h = by-pick (StepOf at) _ (λ e. tt) (λ e. (omega arith, refl))
+  framed_of s (Ok (Some span)) h = by-pick (StepOf at) _ (λ e. (omega arith, refl)) (λ e. after_of (loading_after s span.kind b) span.end (judged s span.kind b at) (judged_of s span.kind))
+  framed_of s (Err r) h = h
+  framed_of s (Ok None) h = by-pick (StepOf at) _ (λ e. tt) (λ e. (omega arith, refl))
 
   body-of : (m : ℕ) (c : Checked) → CheckedOf at c → ParsedOf at (parsed_body b m c)
-  body-of m Checked.Fine h = tt
-  body-of m (Checked.Refused r) h = h
+  body-of m (Ok _) h = tt
+  body-of m (Err r) h = h
 
   parsed_of : (m : ℕ) (f : Framed) → FramedOf at f → ParsedOf at (parsed_frame m b at f)
-  parsed_of m (Framed.Whole k start end) h = by-pick (ParsedOf at) _ (λ e. (omega arith, refl)) (λ e. body-of m (check_block b at m) (block-of m))
-  parsed_of m (Framed.Refused r) h = h
-  parsed_of m Framed.End h = (omega arith, refl)
+  parsed_of m (Ok (Some span)) h = by-pick (ParsedOf at) _ (λ e. (omega arith, refl)) (λ e. body-of m (check_block b at m) (block-of m))
+  parsed_of m (Err r) h = h
+  parsed_of m (Ok None) h = (omega arith, refl)
 
 -- a step of loading, and a frame read as a block
 pub step_of : (run : List ℕ) (at : ℕ) (s : Loading) → StepOf at (step_at run at s)
@@ -126,9 +127,9 @@ unfolding le
 four_bytes s at h = omega (arith, h at, h (suc at), h (suc (suc at)), h (suc (suc (suc at))))
 
 pub body_bytes : (run : List ℕ) (f : Framed) → AreBytes run → AreBytes (body_of f run)
-body_bytes run (Framed.Whole k start end) h = take-bytes (end - start) (drop start run) (AreBytes-drop start run h)
-body_bytes run (Framed.Refused r) h = λ k. omega arith
-body_bytes run Framed.End h = λ k. omega arith
+body_bytes run (Ok (Some span)) h = take-bytes (span.end - span.start) (drop span.start run) (AreBytes-drop span.start run h)
+body_bytes run (Err r) h = λ k. omega arith
+body_bytes run (Ok None) h = λ k. omega arith
 
 -- a block's values as a frame has them
 pub record ValuesFit (b : Values) : Type 0 where

@@ -1,5 +1,6 @@
 -- The sheet that a run of bytes opens with has its numbers in range: loading it, frame by frame, keeps them so.
 -- Assumes nothing.
+use Rattle.std.proofs.Common.{Ok, Err, Some, None}
 use Prim.Native.Nat.{◌<◌, ◌≤◌, suc, zero, ℕ}
 use lib.Dec.{eqb, ltb}
 use lib.ListN.{drop, get_or, length, length-replicate, replicate, set}
@@ -17,7 +18,7 @@ use Rattle.fields.specs.Number.{AreBytes}
 use Rattle.frames.specs.Frame.{body_at, body_of, frame_at}
 use Rattle.frames.specs.Step.{kind_due, step_at}
 use Rattle.frames.specs.declared.step.Loading.{Loading}
-use Rattle.frames.specs.declared.step.Step.{Step}
+use Rattle.frames.specs.Step.{Step}
 use Rattle.frames_load.specs.Load.{body_stored, load_cells, loaded_cells, room}
 use Rattle.refusals.specs.Refusals.{refusal_number, refusal_place}
 use Rattle.refusals.specs.declared.Refusal.{Refusal}
@@ -62,9 +63,9 @@ stored_bytes s b cells h u =
     by-pick AreBytes (eqb (kind_due s) 2) (λ e. bytes-sets b cells 0 u h) (λ e. by-pick AreBytes (eqb (kind_due s) 3) (λ q. bytes-sets b cells _ u h) (λ q. u))
 
 step-bytes : (s : Loading) (b cells : List ℕ) (t : Step) → AreBytes b → AreBytes cells → AreBytes (loaded_cells s b cells t)
-step-bytes s b cells (Step.Took next end) h u = stored_bytes s b cells h u
-step-bytes s b cells (Step.Refused r) h u = u
-step-bytes s b cells Step.End h u = u
+step-bytes s b cells (Ok (Some (next, end))) h u = stored_bytes s b cells h u
+step-bytes s b cells (Err r) h u = u
+step-bytes s b cells (Ok None) h u = u
 
 load-bytes : (run : List ℕ) (at : ℕ) (s : Loading) (cells : List ℕ) → AreBytes run → AreBytes cells → AreBytes (load_cells run at s cells)
 unfolding load_cells
@@ -96,11 +97,11 @@ module _ (run : List ℕ) (bytes : AreBytes run) (short : length run ≤ 65536) 
         })
 
     by_step : complete l ≡ false → (t : Step) → step_at run at l.loading ≡ t → OpenedFits (open_step (λ next end. open_from fuel run end next (sheet_with l.loading (body_at run at) S)) at t)
-    by_step e (Step.Took next end) q =
+    by_step e (Ok (Some (next, end))) q =
         let (o', h') = more_loaded run at l cells S o h e next end q in
         rest end (record { loading = next; heights = l.heights }) _ _ o' h' (load-bytes run at l.loading cells bytes u) (step-ends run at l.loading next end q).1
-    by_step e (Step.Refused x) q = place_fits at x inside (subst (StepOf at) q (step_of run at l.loading))
-    by_step e Step.End q = (omega arith, omega (arith, inside))
+    by_step e (Err x) q = place_fits at x inside (subst (StepOf at) q (step_of run at l.loading))
+    by_step e (Ok None) q = (omega arith, omega (arith, inside))
 
     step_fits : OpenedFits (open_from (suc fuel) run at l.loading S)
     unfolding open_from complete

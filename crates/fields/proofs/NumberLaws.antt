@@ -1,28 +1,23 @@
 -- Reading numbers and writing them: each is the inverse of the other.
 -- Assumes nothing.
 use Prim.Native.Nat.{◌%◌, ◌*◌, ◌+◌, ◌/◌, ◌<◌, ◌^◌, ◌≤◌, suc, zero, ℕ}
-use lib.Arith.{digits_div, digits_mod, mod-mul}
 use lib.Dec.{lit<}
-use lib.ListN.{get_or-append, get_or-eq_default, drop, get_or, length, length-drop, take}
+use lib.ListN.{get_or-append, drop, get_or, length, length-drop, take}
 use lib.Seq.{drop-drop, get_or-append-add, get_or-drop, take-add}
 use mathlib.Core.List.{List, [], ◌++◌, ◌∷◌}
 use mathlib.Core.Path.{◌∙◌, ◌≡◌, ap, refl, sym}
-use native.Mathlib.Nat.{add-mul-div_left, add-mul-mod_self_left, add-suc, add-zero, div-div-eq-div-mul, div-eq_of_lt, div-lt_iff_lt-mul, div-one, mod-add-div, mod-eq_of_lt, mod-lt, mul_assoc, not-suc-le-zero, one-le-pow, pow-suc, pow-succ', suc-add, zero-add}
+use native.Mathlib.Nat.{add-mul-div_left, add-mul-mod_self_left, add-suc, add-zero, div-div-eq-div-mul, div-eq_of_lt, div-lt_iff_lt-mul, div-one, mod-add-div, mod-eq_of_lt, mul_assoc, not-suc-le-zero, pow-suc, pow-succ', suc-add, zero-add}
+use native.Mathlib.Numerals.{add-one}
 use native.Mathlib.Omega.{arith}
 use Rattle.fields.specs.Number.{AreBytes, le, le_bytes}
+use Rattle.std.specs.Int.{byte_at, byte_worth, bytes_low_first, sum_through}
 
 -- one byte
 pub le-one : (s : List ℕ) (at : ℕ) → le 1 s at ≡ get_or s at 0
 unfolding le
 le-one s at = omega arith
 
--- past the end of the list there are zeros
-pub le-past : (n : ℕ) (s : List ℕ) (at : ℕ) → length s ≤ at → le n s at ≡ 0
-unfolding le
-le-past zero s at h = refl
-le-past (suc n) s at h = simp (get_or-eq_default s 0 h, le-past n s (suc at) (omega arith)) (omega arith)
-
--- a number of k + n bytes is one of k bytes and one of n bytes after them: the law of all the readers
+-- a number of k + n bytes is one of k bytes and one of n bytes after them
 pub le_split : (k n : ℕ) (s : List ℕ) (at : ℕ) → le (k + n) s at ≡ le k s at + 256 ^ k * le n s (at + k)
 unfolding le
 le_split zero n s at = simp (zero-add, add-zero) (omega arith)
@@ -37,10 +32,15 @@ unfolding le
 le-drop zero s from at = refl
 le-drop (suc n) s from at = simp (get_or-drop, le-drop n s from (suc at), add-suc)
 
--- two halves of k bytes, the lower first, make a number of k + k bytes: what each reader above one byte does
-pub le_halves : (k : ℕ) (s : List ℕ) (at : ℕ) {low high : ℕ} → low ≡ le k s at → high ≡ le k s (at + k)
-    → low + 256 ^ k * high ≡ le (k + k) s at
-le_halves k s at l h = simp (l, h) (sym (le_split k k s at))
+-- what the bytes of a number are worth together, as `from_le_bytes` sums them: what each reader does
+pub le_worth : (n : ℕ) (s bytes : List ℕ) (at : ℕ) → ((k : ℕ) → k < suc n → get_or bytes k 0 ≡ get_or s (at + k) 0)
+    → sum_through (λ i. byte_worth i (get_or bytes i 0)) n ≡ le (suc n) s at
+le_worth zero s bytes at h = h 0 (omega arith) ∙ ap (λ (k : ℕ). get_or s k 0) (add-zero at) ∙ sym (le-one s at)
+le_worth (suc n) s bytes at h =
+    let front = le_worth n s bytes at (λ k lt. h k (omega arith)) in
+    let last = h (suc n) (omega arith) ∙ sym (le-one s (at + suc n)) in
+    let split = rw add-one at (le_split (suc n) 1 s at) in
+    rw (front, last, split) (omega arith)
 
 -- a number that lies in the first part
 pub le-front : (n : ℕ) (b post : List ℕ) (at : ℕ) → at + n ≤ length b → le n (b ++ post) at ≡ le n b at
@@ -109,17 +109,16 @@ take-bytes (suc n) [] b k = lit< tt
 take-bytes (suc n) (x ∷ s) b zero = b 0
 take-bytes (suc n) (x ∷ s) b (suc k) = take-bytes n s (λ i. b (suc i)) k
 
-pub le_bytes_split : (k n v : ℕ) → le_bytes (k + n) v ≡ le_bytes k v ++ le_bytes n (v / 256 ^ k)
+-- the bytes that `to_le_bytes` gives from byte i on
+pub low_first : (i k v : ℕ) → bytes_low_first i k v ≡ le_bytes k (v / 256 ^ i)
 unfolding le_bytes
-le_bytes_split zero n v = rw (zero-add, div-one)
-le_bytes_split (suc k) n v =
-    rw (suc-add, le_bytes_split k n (v / 256), pow-succ', div-div-eq-div-mul)
+low_first i zero v = refl
+low_first i (suc k) v = rw (low_first (suc i) k v, div-div-eq-div-mul, pow-suc) (ap (λ (b : ℕ). b ∷ le_bytes k (v / (256 ^ i * 256))) (byte i))
+  where
+    byte : (i : ℕ) → byte_at i v ≡ v / 256 ^ i % 256
+    byte zero = rw div-one refl
+    byte (suc i) = refl
 
--- bytes above the lowest k do not matter
-pub le_bytes_mod : (k v : ℕ) → le_bytes k (v % 256 ^ k) ≡ le_bytes k v
-unfolding le_bytes
-le_bytes_mod zero v = refl
-le_bytes_mod (suc k) v =
-    let split = mod-mul v {m = 256 ^ k} {c = 256} (one-le-pow k 256 (lit< tt)) (lit< tt) in
-    let less = mod-lt v {m = 256} (lit< tt) in
-    rw (pow-suc, split, digits_mod (v / 256 % 256 ^ k) less, digits_div (v / 256 % 256 ^ k) less, le_bytes_mod k (v / 256))
+-- the bytes of a number as `to_le_bytes` gives them
+pub written : (k v : ℕ) → bytes_low_first 0 k v ≡ le_bytes k v
+written k v = low_first 0 k v ∙ ap (le_bytes k) (div-one v)

@@ -1,14 +1,14 @@
 -- Stores of several bytes: in a row, past the end, and what is read before and at the place of a store.
 -- Assumes nothing.
-use Prim.Native.Nat.{◌+◌, ◌-◌, ◌/◌, ◌<◌, ◌^◌, ◌≤◌, suc, ℕ}
+use Prim.Native.Nat.{◌+◌, ◌-◌, ◌<◌, ◌≤◌, suc, ℕ}
 use lib.ListN.{drop, get_or, length, length-append, length-drop, set, take, take-append-drop}
 use lib.Seq.{drop-append-le, drop_at, length-take-le, set_out, sets, sets-eq, take-append-add, take-append-le, take_at, take-suc}
 use mathlib.Core.List.{List, [], ◌++◌, ◌∷◌, append_assoc}
 use mathlib.Core.Path.{◌∙◌, ◌≡◌, ap, refl, sym}
 use native.Mathlib.Numerals.{add-one}
 use native.Mathlib.Omega.{arith}
-use Rattle.fields.proofs.NumberLaws.{le-front, le_bytes_split, length-le_bytes}
-use Rattle.fields.specs.Number.{le, le_bytes, store_number}
+use Rattle.fields.proofs.NumberLaws.{le-front}
+use Rattle.fields.specs.Number.{le}
 
 -- two runs of stores in a row are one
 pub sets_then : (xs ys l : List ℕ) (i j : ℕ) → j ≡ i + length xs → sets (sets l i xs) j ys ≡ sets l i (xs ++ ys)
@@ -20,17 +20,6 @@ sets_out [] l at h = refl
 sets_out (v ∷ vs) l at h =
     let e = set_out l at v h in
     rw e (sets_out vs l (suc at) (omega arith))
-
-pub store_past : (n : ℕ) (l : List ℕ) (at v : ℕ) → length l ≤ at → store_number n l at v ≡ l
-unfolding store_number
-store_past n l at v h = sets_out (le_bytes n v) l at h
-
--- two halves: what each writer above one byte does
-pub store_halves : (k : ℕ) (l : List ℕ) (at v low : ℕ) → le_bytes k low ≡ le_bytes k v
-    → store_number k (store_number k l at low) (at + k) (v / 256 ^ k) ≡ store_number (k + k) l at v
-unfolding store_number
-store_halves k l at v low e =
-    rw e (sets_then (le_bytes k v) (le_bytes k (v / 256 ^ k)) l at (at + k) (rw length-le_bytes refl) ∙ ap (sets l at) (sym (le_bytes_split k k v)))
 
 -- a copying loop stores one element more
 pub copy_more : (l s : List ℕ) (at k : ℕ) → k < length s → set (sets l at (take k s)) (at + k) (get_or s k 0) ≡ sets l at (take (k + 1) s)

@@ -1,5 +1,6 @@
 -- The balances' test in the terms of the code, and what their check says.
 -- Assumes nothing.
+use Rattle.std.proofs.Common.{Ok}
 use Prim.Native.Nat.{◌*◌, ◌<◌, ◌≤◌, ℕ}
 use borrow.Author.Tests.{eq-eqb, eqb-true, leb-true}
 use lib.Dec.{eqb, leb}
@@ -13,17 +14,16 @@ use Rattle.refusals.proofs.CheckedLaws.{held, tested}
 use Rattle.sums.proofs.SeqLaws.{length-tabulate, tabulate_each}
 use Rattle.sums.proofs.TestLaws.{all_to_ext, all_to_true, passed, took}
 use Rattle.sums.specs.Test.{all_to}
-use Rattle.refusals.specs.declared.Checked.TheVariants.{Fine}
 
 pub fits_same : (a : ℕ) (b : List ℕ) → balances_ok (balances_of a b) ≡ all_to a (λ k. leb (le 8 b (8 * k)) 1099511627776)
 unfolding balances_ok balances_of
 fits_same a b = tabulate_each 0 a (λ k. le 8 b (8 * k)) all_to all_to_ext (λ n. leb n 1099511627776)
 
-pub balances_fine : (b : List ℕ) (at a : ℕ) → length b ≡ 8 * a → balances_ok (balances_of a b) ≡ true → check_balances b at a ≡ Fine
+pub balances_fine : (b : List ℕ) (at a : ℕ) → length b ≡ 8 * a → balances_ok (balances_of a b) ≡ true → check_balances b at a ≡ Ok tt
 unfolding check_balances
 balances_fine b at a e ok = passed _ (ap not (eq-eqb _ _ e)) (took _ ok refl)
 
-pub balances_checked : (b : List ℕ) (at a : ℕ) → check_balances b at a ≡ Fine → (length b ≡ 8 * a) × (balances_ok (balances_of a b) ≡ true)
+pub balances_checked : (b : List ℕ) (at a : ℕ) → check_balances b at a ≡ Ok tt → (length b ≡ 8 * a) × (balances_ok (balances_of a b) ≡ true)
 unfolding check_balances
 balances_checked b at a e = let p = held (eqb (length b) (8 * a)) _ e in (eqb-true (length b) (8 * a) p.0, tested (balances_ok (balances_of a b)) _ p.1)
 

@@ -1,5 +1,6 @@
 -- What a header's test and check say.
 -- Assumes nothing.
+use Rattle.std.proofs.Common.{Ok}
 use Prim.Native.Nat.{◌≤◌, ℕ}
 use borrow.Author.Tests.{eq-eqb, eqb-true, leb-true}
 use lib.Dec.{eqb, leb}
@@ -11,7 +12,6 @@ use Rattle.fields.specs.Number.{le}
 use Rattle.frames.specs.Header.{check_header, header_of, header_ok}
 use Rattle.refusals.proofs.CheckedLaws.{held, tested}
 use Rattle.sums.proofs.TestLaws.{both_true, passed, took}
-use Rattle.refusals.specs.declared.Checked.TheVariants.{Fine}
 
 -- the test, bound by bound
 pub record HeaderBounds (m a g t : ℕ) : Type 0 where
@@ -39,10 +39,10 @@ header_bounds m a g t e =
       transactions = leb-true t 1024 p5.1;
     }
 
-pub header_fine : (b : List ℕ) (at : ℕ) → length b ≡ 8 → header_ok (header_of b).m (header_of b).a (header_of b).g (header_of b).t ≡ true → check_header b at ≡ Fine
+pub header_fine : (b : List ℕ) (at : ℕ) → length b ≡ 8 → header_ok (header_of b).m (header_of b).a (header_of b).g (header_of b).t ≡ true → check_header b at ≡ Ok tt
 unfolding check_header header_of
 header_fine b at e ok = passed _ (ap not (eq-eqb _ _ e)) (took _ ok refl)
 
-pub header_checked : (b : List ℕ) (at : ℕ) → check_header b at ≡ Fine → (length b ≡ 8) × (header_ok (header_of b).m (header_of b).a (header_of b).g (header_of b).t ≡ true)
+pub header_checked : (b : List ℕ) (at : ℕ) → check_header b at ≡ Ok tt → (length b ≡ 8) × (header_ok (header_of b).m (header_of b).a (header_of b).g (header_of b).t ≡ true)
 unfolding check_header header_of
 header_checked b at e = let p = held (eqb (length b) 8) _ e in (eqb-true (length b) 8 p.0, tested (header_ok (le 2 b 0) (le 2 b 2) (le 2 b 4) (le 2 b 6)) _ p.1)

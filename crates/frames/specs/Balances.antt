@@ -1,10 +1,10 @@
 -- The starting balances (document 01, kind 2: starts).
 -- Assumes nothing.
-use Rattle.std.specs.Prelude.{◌*◌, ℕ, eqb, leb, get_or, length, Bool, not, List}
+use Rattle.std.specs.Prelude.{◌*◌, ℕ, eqb, leb, get_or, length, Bool, not, List, Ok, Err}
 use Rattle.fields.specs.Number.{le}
 use Rattle.sums.specs.Seq.{tabulate}
 use Rattle.sums.specs.Test.{all_to, pick}
-use Rattle.refusals.specs.declared.Checked.{Checked}
+use Rattle.refusals.specs.Refusals.{Checked}
 use Rattle.refusals.specs.declared.Refusal.TheVariants.{BodyLength, OutOfRange}
 
 -- "each at most 2^40"
@@ -18,5 +18,5 @@ balances_of a b = tabulate a (λ k. le 8 b (8 * k))
 -- refusals 4 ("8 × a for starts") and 5, of a frame at the offset at
 unfoldable pub check_balances : List ℕ → ℕ → ℕ → Checked
 check_balances b at a =
-    pick (not (eqb (length b) (8 * a))) (Checked.Refused (BodyLength at))
-    (pick (balances_ok (balances_of a b)) Checked.Fine (Checked.Refused (OutOfRange at)))
+    pick (not (eqb (length b) (8 * a))) (Err (BodyLength at))
+    (pick (balances_ok (balances_of a b)) (Ok tt) (Err (OutOfRange at)))

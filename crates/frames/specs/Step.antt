@@ -1,6 +1,6 @@
 -- One frame of a run, judged by the sheet so far (document 01, "Slips": "A run is one head, one starts slip, t transactions in number order, then blocks").
 -- Assumes nothing.
-use Rattle.std.specs.Prelude.{◌+◌, ℕ, eqb, ltb, not, List}
+use Rattle.std.specs.Prelude.{◌+◌, ℕ, eqb, ltb, not, List, Ok, Err, Some, None, Option, Result}
 use Rattle.fields.specs.Number.{le}
 use Rattle.frames.specs.Balances.{check_balances}
 use Rattle.frames.specs.Block.{check_block}
@@ -8,11 +8,18 @@ use Rattle.frames.specs.Frame.{body_of, frame_at}
 use Rattle.frames.specs.Header.{check_header, header_ok}
 use Rattle.sums.specs.Test.{pick}
 use Rattle.transactions.specs.Check.{check_transaction}
-use Rattle.frames.specs.declared.frame.Framed.{Framed}
+use Rattle.frames.specs.Frame.{Framed}
 use Rattle.frames.specs.declared.step.Loading.{Loading}
-use Rattle.frames.specs.declared.step.Step.{Step}
-use Rattle.refusals.specs.declared.Checked.{Checked}
+use Rattle.refusals.specs.Refusals.{Checked}
+use Rattle.refusals.specs.declared.Refusal.{Refusal}
 use Rattle.refusals.specs.declared.Refusal.TheVariants.{KindNotDue, Short}
+
+-- a frame that was taken, as the sheet then and the next offset; a refusal; or the run's end
+abbrev pub Step : Type 0
+Step = Result (Option (Loading × ℕ)) Refusal
+
+abbrev pub taken_step : Loading → ℕ → Step
+taken_step next end = Ok (Some (next, end))
 
 -- The kind that is due: 1, then 2, then 3 until t transactions are there, then 4 ("With t 0 it is complete after the starts").
 -- None is, and 0 stands for it, where the numbers are not those of a header or more than t transactions were taken: no loading leaves such a value
@@ -27,7 +34,7 @@ unfoldable pub judged : Loading → ℕ → List ℕ → ℕ → Checked
 judged s kind b at =
     pick (eqb kind 1) (check_header b at)
     (pick (eqb kind 2) (check_balances b at s.a)
-    (pick (eqb kind 3) (check_transaction b at s.a s.g) (pick (eqb kind 4) (check_block b at s.m) (Checked.Refused (KindNotDue at)))))
+    (pick (eqb kind 3) (check_transaction b at s.a s.g) (pick (eqb kind 4) (check_block b at s.m) (Err (KindNotDue at)))))
 
 -- the sheet so far after a header, and after a frame of a kind
 unfoldable pub header_loaded : List ℕ → Loading
@@ -43,15 +50,15 @@ loading_after s kind b =
 
 -- a frame that is fine is taken, and the next one begins at end
 abbrev pub after_check : Loading → ℕ → Checked → Step
-after_check next end Checked.Fine = Step.Took next end
-after_check next end (Checked.Refused r) = Step.Refused r
+after_check next end (Ok _) = taken_step next end
+after_check next end (Err r) = Err r
 
 -- by what stands at the offset: 3 where the kind is not due, then 4 to 7; where no byte is left, the run's end once the sheet is complete, else 1
 abbrev pub after_frame : Loading → ℕ → List ℕ → Framed → Step
-after_frame s at b (Framed.Whole k start end) =
-    pick (not (eqb k (kind_due s))) (Step.Refused (KindNotDue at)) (after_check (loading_after s k b) end (judged s k b at))
-after_frame s at b (Framed.Refused r) = Step.Refused r
-after_frame s at b Framed.End = pick (eqb (kind_due s) 4) Step.End (Step.Refused (Short at))
+after_frame s at b (Ok (Some span)) =
+    pick (not (eqb span.kind (kind_due s))) (Err (KindNotDue at)) (after_check (loading_after s span.kind b) span.end (judged s span.kind b at))
+after_frame s at b (Err r) = Err r
+after_frame s at b (Ok None) = pick (eqb (kind_due s) 4) (Ok None) (Err (Short at))
 
 -- the answer at an offset of a run, with the sheet so far
 unfoldable pub step_at : List ℕ → ℕ → Loading → Step

@@ -3,7 +3,7 @@ ghost use Rattle.std.specs.Prelude.{◌≡◌};
 ghost use Rattle.frames.specs.Balances.{balances_of, balances_ok, check_balances};
 
 use fields::u64_at;
-use refusals::{Checked, Refusal};
+use refusals::Refusal;
 
 fn balances_ok(a: u16, b: &[u8]) -> bool
     ensures { result ≡ balances_ok (balances_of a b.now) }
@@ -16,15 +16,15 @@ fn balances_ok(a: u16, b: &[u8]) -> bool
     true
 }
 
-pub(crate) fn check_balances(b: &[u8], at: usize, a: u16) -> Checked
+pub(crate) fn check_balances(b: &[u8], at: usize, a: u16) -> Result<(), Refusal>
     ensures { result ≡ check_balances b.now at a }
 {
     if b.len() != 8 * (a as usize) {
-        return Checked::Refused(Refusal::BodyLength(at));
+        return Err(Refusal::BodyLength(at));
     }
     if balances_ok(a, b) {
-        Checked::Fine
+        Ok(())
     } else {
-        Checked::Refused(Refusal::OutOfRange(at))
+        Err(Refusal::OutOfRange(at))
     }
 }

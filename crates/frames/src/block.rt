@@ -5,7 +5,7 @@ ghost use Rattle.frames.specs.Block.{block_of, check_block, cut_entry, cut_of};
 
 use fields::{rest, u16_at, u32_at};
 use ordering::{Rank, SequenceNumber};
-use refusals::{Checked, Refusal};
+use refusals::Refusal;
 
 // A block but for its citations, which stay in the body. A sequence number and a rank are different counters.
 #[derive(Clone, Copy)]
@@ -63,18 +63,18 @@ pub fn cite_at(list: &[u8], k: u16) -> u16
     u16_at(list, 2 * (k as usize))
 }
 
-pub fn check_block(body: &[u8], at: usize, m: u16) -> Checked
+pub fn check_block(body: &[u8], at: usize, m: u16) -> Result<(), Refusal>
     ensures { result ≡ check_block body.now at m }
 {
     if body.len() < 10 {
-        return Checked::Refused(Refusal::BodyLength(at));
+        return Err(Refusal::BodyLength(at));
     }
     let count = u16_at(body, 8);
     if body.len() != 10 + 2 * (m as usize) + 2 * (count as usize) {
-        return Checked::Refused(Refusal::BodyLength(at));
+        return Err(Refusal::BodyLength(at));
     }
     if 32 < count {
-        return Checked::Refused(Refusal::OutOfRange(at));
+        return Err(Refusal::OutOfRange(at));
     }
-    Checked::Fine
+    Ok(())
 }

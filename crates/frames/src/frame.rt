@@ -5,39 +5,40 @@ ghost use Rattle.frames.specs.Frame.{body_at, frame_at, start_of};
 use fields::{u16_at, u32_at};
 use refusals::Refusal;
 
-// What stands at an offset. A frame's body is from start to end, and end is the next frame's offset.
-#[derive(Clone, Copy)]
-pub enum Framed {
-    Whole { kind: u16, start: usize, end: usize },
-    Refused(Refusal),
-    End,
+// A frame's kind, and where its body starts and ends; that end is the next frame's offset.
+#[derive(Clone, Copy, Debug, PartialEq, Eq)]
+pub struct Span {
+    pub kind: u16,
+    pub start: usize,
+    pub end: usize,
 }
 
-pub fn frame(run: &[u8], at: usize) -> Framed
+// What stands at an offset: a frame, or why there is none; None where no byte is left.
+pub fn frame(run: &[u8], at: usize) -> Result<Option<Span>, Refusal>
     ensures { result ≡ frame_at run.now at }
 {
     let n = run.len();
     if n <= at {
-        return Framed::End;
+        return Ok(None);
     }
     if n < at + 4 {
-        return Framed::Refused(Refusal::Short(at));
+        return Err(Refusal::Short(at));
     }
     let l = u32_at(run, at) as usize;
     if l < 2 {
-        return Framed::Refused(Refusal::BadLength(at));
+        return Err(Refusal::BadLength(at));
     }
     if 8194 < l {
-        return Framed::Refused(Refusal::BadLength(at));
+        return Err(Refusal::BadLength(at));
     }
     if n < at + 4 + l {
-        return Framed::Refused(Refusal::Short(at));
+        return Err(Refusal::Short(at));
     }
-    Framed::Whole {
+    Ok(Some(Span {
         kind: u16_at(run, at + 4),
         start: at + 6,
         end: at + 4 + l,
-    }
+    }))
 }
 
 // The body of the frame at an offset, "as that stretch of the caller's own bytes": its content, and that it lies in the run's own memory from its start on.
@@ -48,12 +49,8 @@ pub fn body(run: &[u8], at: usize) -> &[u8]
         × (result.ref_ptr.1 ≡ run.entry.ref_ptr.1 + start_of (frame_at run.now at)) }
 {
     match frame(run, at) {
-        Framed::Whole {
-            kind: _,
-            start,
-            end,
-        } => &run[start..end],
-        Framed::Refused(_) => &run[..0],
-        Framed::End => &run[..0],
+        Ok(Some(Span { start, end, .. })) => &run[start..end],
+        Err(_) => &run[..0],
+        Ok(None) => &run[..0],
     }
 }

@@ -3,7 +3,7 @@ ghost use Rattle.std.specs.Prelude.{◌≡◌};
 ghost use Rattle.frames.specs.Header.{check_header, header_ok};
 
 use fields::u16_at;
-use refusals::{Checked, Refusal};
+use refusals::Refusal;
 
 // m instances, a accounts, g registers, t transactions.
 #[derive(Clone, Copy)]
@@ -35,15 +35,15 @@ pub fn header_ok(m: u16, a: u16, g: u16, t: u16) -> bool
     t <= 1024
 }
 
-pub(crate) fn check_header(b: &[u8], at: usize) -> Checked
+pub(crate) fn check_header(b: &[u8], at: usize) -> Result<(), Refusal>
     ensures { result ≡ check_header b.now at }
 {
     if b.len() != 8 {
-        return Checked::Refused(Refusal::BodyLength(at));
+        return Err(Refusal::BodyLength(at));
     }
     if header_ok(u16_at(b, 0), u16_at(b, 2), u16_at(b, 4), u16_at(b, 6)) {
-        Checked::Fine
+        Ok(())
     } else {
-        Checked::Refused(Refusal::OutOfRange(at))
+        Err(Refusal::OutOfRange(at))
     }
 }

@@ -1,13 +1,13 @@
 // One frame of a run, judged by the sheet so far: which kind is due, refusals 1 to 7 in their order, and the sheet then.
 ghost use Rattle.std.specs.Prelude.{◌≡◌};
-ghost use Rattle.frames.specs.Step.{after_check, header_loaded, judged, kind_due, loading_after, step_at};
+ghost use Rattle.frames.specs.Step.{header_loaded, judged, kind_due, loading_after, step_at};
 
 use crate::balances::check_balances;
 use crate::block::check_block;
-use crate::frame::{Framed, body, frame};
+use crate::frame::{Span, body, frame};
 use crate::header::{check_header, header_ok};
 use fields::u16_at;
-use refusals::{Checked, Refusal};
+use refusals::Refusal;
 use transactions::check::check_transaction;
 
 // The sheet so far: the header's numbers; stage 0 before the header, 1 after it, 2 after the balances; how many
@@ -20,14 +20,6 @@ pub struct Loading {
     pub t: u16,
     pub stage: u8,
     pub loaded: u16,
-}
-
-// A frame that was taken, with the sheet then and the next offset.
-#[derive(Clone, Copy)]
-pub enum Step {
-    Took(Loading, usize),
-    Refused(Refusal),
-    End,
 }
 
 // The kind that is due; 0 where there is none, as the numbers are not a header's.
@@ -52,22 +44,17 @@ pub fn kind_due(s: Loading) -> u16
     0
 }
 
-fn judge(s: Loading, kind: u16, b: &[u8], at: usize) -> Checked
+// Refusals 4 to 7, by the kind.
+fn judge(s: Loading, kind: u16, b: &[u8], at: usize) -> Result<(), Refusal>
     ensures { result ≡ judged s kind b.now at }
 {
-    if kind == 1 {
-        return check_header(b, at);
+    match kind {
+        1 => check_header(b, at),
+        2 => check_balances(b, at, s.a),
+        3 => check_transaction(b, at, s.a, s.g),
+        4 => check_block(b, at, s.m),
+        _ => Err(Refusal::KindNotDue(at)),
     }
-    if kind == 2 {
-        return check_balances(b, at, s.a);
-    }
-    if kind == 3 {
-        return check_transaction(b, at, s.a, s.g);
-    }
-    if kind == 4 {
-        return check_block(b, at, s.m);
-    }
-    Checked::Refused(Refusal::KindNotDue(at))
 }
 
 fn header_loaded(b: &[u8]) -> Loading
@@ -91,60 +78,37 @@ fn loading_after(s: Loading, kind: u16, b: &[u8]) -> Loading
     }
     if kind == 2 {
         return Loading {
-            m: s.m,
-            a: s.a,
-            g: s.g,
-            t: s.t,
             stage: 2,
             loaded: 0,
+            ..s
         };
     }
     if kind == 3 {
         if s.loaded < s.t {
             return Loading {
-                m: s.m,
-                a: s.a,
-                g: s.g,
-                t: s.t,
                 stage: 2,
                 loaded: s.loaded + 1,
+                ..s
             };
         }
     }
     s
 }
 
-fn take_checked(s: Loading, kind: u16, b: &[u8], at: usize, end: usize) -> Step
-    ensures { result ≡ after_check (loading_after s kind b.now) end (judged s kind b.now at) }
-{
-    match judge(s, kind, b, at) {
-        Checked::Fine => Step::Took(loading_after(s, kind, b), end),
-        Checked::Refused(r) => Step::Refused(r),
-    }
-}
-
-pub fn next_frame(run: &[u8], at: usize, s: Loading) -> Step
+// The frame at an offset, judged: the sheet then and the next offset, or why it is turned away; None where the run ends.
+pub fn next_frame(run: &[u8], at: usize, s: Loading) -> Result<Option<(Loading, usize)>, Refusal>
     ensures { result ≡ step_at run.now at s }
 {
-    match frame(run, at) {
-        Framed::Whole {
-            kind,
-            start: _,
-            end,
-        } => {
-            if kind != kind_due(s) {
-                Step::Refused(Refusal::KindNotDue(at))
-            } else {
-                take_checked(s, kind, body(run, at), at, end)
-            }
+    let Some(Span { kind, end, .. }) = frame(run, at)? else {
+        if kind_due(s) == 4 {
+            return Ok(None);
         }
-        Framed::Refused(r) => Step::Refused(r),
-        Framed::End => {
-            if kind_due(s) == 4 {
-                Step::End
-            } else {
-                Step::Refused(Refusal::Short(at))
-            }
-        }
+        return Err(Refusal::Short(at));
+    };
+    if kind != kind_due(s) {
+        return Err(Refusal::KindNotDue(at));
     }
+    let b = body(run, at);
+    judge(s, kind, b, at)?;
+    Ok(Some((loading_after(s, kind, b), end)))
 }

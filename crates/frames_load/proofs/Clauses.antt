@@ -5,9 +5,9 @@ use lib.ListN.{length}
 use mathlib.Core.List.{List}
 use mathlib.Core.Path.{◌≡◌}
 use Rattle.frames.specs.Frame.{body_at}
-use Rattle.frames.specs.Step.{header_loaded, kind_due}
+use Rattle.frames.specs.Step.{header_loaded, kind_due, taken_step}
 use Rattle.frames.specs.declared.step.Loading.{Loading}
-use Rattle.frames.specs.declared.step.Step.{Step}
+use Rattle.frames.specs.Step.{Step}
 use Rattle.frames_load.specs.Load.{Adds, LoadStep, Loads, load_answer, load_cells, sheet_so_far, with_balances, with_transaction}
 
 module _ {run : List ℕ} {at : ℕ} {s : Loading} {before after : List ℕ} {answer : Step} (p : Loads run at s before after answer) where
@@ -36,5 +36,5 @@ module _ {run : List ℕ} {at : ℕ} {s : Loading} {before after : List ℕ} {an
   pub step-bytes : Loads run at s before after answer
   step-bytes = p.bytes
 
-  pub step-adds : (next : Loading) (end : ℕ) → answer ≡ Step.Took next end → Adds s next (body_at run at) before after
+  pub step-adds : (next : Loading) (end : ℕ) → answer ≡ taken_step next end → Adds s next (body_at run at) before after
   step-adds = p.adds

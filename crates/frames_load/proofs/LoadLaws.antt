@@ -1,5 +1,6 @@
 -- Which answer loading gives, and what it leaves of the sheet.
 -- Assumes nothing.
+use Rattle.std.proofs.Common.{Ok, Err, None}
 use Prim.Native.Nat.{◌*◌, ◌+◌, ◌-◌, ◌<◌, ◌≤◌, min, ℕ}
 use borrow.Author.Tests.{eq-eqb, le-ltb, lt-ltb, ltb-false, ne_eqb}
 use lib.Dec.{eqb, ltb}
@@ -19,7 +20,7 @@ use Rattle.frames.specs.Balances.{balances_of, balances_ok}
 use Rattle.frames.specs.Frame.{body_at, body_of, frame_at}
 use Rattle.frames.specs.Header.{header_of, header_ok}
 use Rattle.sheets.specs.Sheet.{balance_in, sheet_from, slot_from, transaction_in}
-use Rattle.frames.specs.Step.{kind_due, step_at}
+use Rattle.frames.specs.Step.{kind_due, step_at, taken_step}
 use Rattle.frames_load.specs.Load.{LoadStep, Adds, Loads, body_stored, load_answer, load_cells, loaded_cells, room, sheet_so_far, with_balances, with_transaction}
 use Rattle.sums.proofs.LoopLaws.{tabulate-more}
 use Rattle.sums.proofs.SeqLaws.{get_d_tabulate, length-tabulate, tabulate_ext}
@@ -30,8 +31,7 @@ use Rattle.transactions.proofs.BodyLaws.{BodyFine, judged_anywhere, transaction_
 use Rattle.transactions.specs.Body.{transaction_of}
 use Rattle.transactions.specs.Check.{check_transaction, judge_transaction}
 use Rattle.frames.specs.declared.step.Loading.{Loading}
-use Rattle.frames.specs.declared.step.Step.{Step}
-use Rattle.refusals.specs.declared.Checked.TheVariants.{Fine}
+use Rattle.frames.specs.Step.{Step}
 use Rattle.refusals.specs.declared.Refusal.{Refusal}
 use Rattle.refusals.specs.declared.Refusal.TheVariants.{BufferShort}
 
@@ -46,7 +46,7 @@ length_stored s b cells =
     (λ e. by-pick (λ (c : List ℕ). length c ≡ length cells) (eqb (kind_due s) 3) (λ u. length-sets cells _ b) (λ u. refl))
 
 -- what was taken is fine, fits the room, and goes to its place
-module _ (s : Loading) (run : List ℕ) (at : ℕ) (next : Loading) (end : ℕ) (q : step_at run at s ≡ Step.Took next end) where
+module _ (s : Loading) (run : List ℕ) (at : ℕ) (next : Loading) (end : ℕ) (q : step_at run at s ≡ taken_step next end) where
   abbrev B : List ℕ
   B = body_at run at
 
@@ -57,14 +57,14 @@ module _ (s : Loading) (run : List ℕ) (at : ℕ) (next : Loading) (end : ℕ) 
   took_balances e =
       balances_checked B at s.a (sym (judged-balances s (kind_due s) B at (λ (w : kind_due s ≡ 1). omega arith) e) ∙ (took_judged s run at next end q).0)
 
-  took_check : kind_due s ≡ 3 → check_transaction B at s.a s.g ≡ Fine
+  took_check : kind_due s ≡ 3 → check_transaction B at s.a s.g ≡ Ok tt
   took_check e =
       sym (judged-transaction s (kind_due s) B at (λ (w : kind_due s ≡ 1). omega arith) (λ (w : kind_due s ≡ 2). omega arith) e) ∙ (took_judged s run at next end q).0
 
   pub took_transaction : kind_due s ≡ 3 → BodyFine B
   took_transaction e = transaction_fine B at s.a s.g (took_check e)
 
-  pub took_judgement : kind_due s ≡ 3 → judge_transaction 0 s.a s.g (transaction_of B) ≡ Fine
+  pub took_judgement : kind_due s ≡ 3 → judge_transaction 0 s.a s.g (transaction_of B) ≡ Ok tt
   took_judgement e = judged_anywhere at 0 s.a s.g (transaction_of B) (transaction_checked B at s.a s.g (took_check e))
 
   module _ (cells : List ℕ) (wide : room s ≤ length cells) where
@@ -126,7 +126,7 @@ module _ (s : Loading) (run : List ℕ) (at : ℕ) (next : Loading) (end : ℕ) 
 -- which answer, and which cells
 module _ (run : List ℕ) (at : ℕ) (s : Loading) (cells : List ℕ) where
   pub load-short : length cells < room s
-      → Loads run at s cells cells (Step.Refused (BufferShort (room s)))
+      → Loads run at s cells cells (Err (BufferShort (room s)))
   unfolding load_answer load_cells
   load-short h = let t = lt-ltb (length cells) (room s) h in record { answers = sym (took _ t refl); cells = sym (took _ t refl) }
 
@@ -141,10 +141,10 @@ module _ (run : List ℕ) (at : ℕ) (s : Loading) (cells : List ℕ) where
 -- a frame that was taken had room, was taken by the step, and was stored
 pub record TookIt (run : List ℕ) (at : ℕ) (s : Loading) (before after : List ℕ) (next : Loading) (end : ℕ) : Type 0 where
   pub wide : room s ≤ length before
-  pub step : step_at run at s ≡ Step.Took next end
+  pub step : step_at run at s ≡ taken_step next end
   pub stored : after ≡ body_stored s (body_at run at) before
 
-module _ (run : List ℕ) (at : ℕ) (s : Loading) (before after : List ℕ) (next : Loading) (end : ℕ) (l : Loads run at s before after (Step.Took next end)) where
+module _ (run : List ℕ) (at : ℕ) (s : Loading) (before after : List ℕ) (next : Loading) (end : ℕ) (l : Loads run at s before after (taken_step next end)) where
   pub took_it : TookIt run at s before after next end
   unfolding load_answer load_cells
   took_it =
@@ -155,7 +155,7 @@ module _ (run : List ℕ) (at : ℕ) (s : Loading) (before after : List ℕ) (ne
         stored = l.cells ∙ passed _ p.0 (ap (loaded_cells s (body_at run at) before) p.1);
       }
     where
-      refused_no : {r : Refusal} → Step.Refused r ≡ Step.Took next end → ⊥
+      refused_no : {r : Refusal} → ◌≡◌ {A = Step} (Err r) (taken_step next end) → ⊥
       refused_no q = let z : ◌≡◌ {A = ℕ} 0 1 = cc in omega arith
 
   -- the new item is there, the others are as they were
@@ -168,14 +168,14 @@ module _ (run : List ℕ) (at : ℕ) (s : Loading) (before after : List ℕ) whe
   unfolding load_answer load_cells pick
   kept {x} same l = go (ltb (length before) (room s)) l.answers l.cells
     where
-      go : (t : Bool) → x ≡ pick t (Step.Refused (BufferShort (room s))) (step_at run at s) → after ≡ pick t before (loaded_cells s (body_at run at) before (step_at run at s)) → after ≡ before
+      go : (t : Bool) → x ≡ pick t (Err (BufferShort (room s))) (step_at run at s) → after ≡ pick t before (loaded_cells s (body_at run at) before (step_at run at s)) → after ≡ before
       go true a c = c
       go false a c = c ∙ ap (loaded_cells s (body_at run at) before) (sym a) ∙ same
 
-  pub refused-kept : {r : Refusal} → Loads run at s before after (Step.Refused r) → after ≡ before
+  pub refused-kept : {r : Refusal} → Loads run at s before after (Err r) → after ≡ before
   refused-kept l = kept refl l
 
-  pub end_kept : Loads run at s before after Step.End → after ≡ before
+  pub end_kept : Loads run at s before after (Ok None) → after ≡ before
   end_kept l = kept refl l
 
 -- so the contract speaks of the decoded sheet

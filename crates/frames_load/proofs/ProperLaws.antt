@@ -1,5 +1,6 @@
 -- Every frame that is taken keeps a sheet proper as far as it goes; so a sheet that calls of `load` completed is proper.
 -- Assumes nothing.
+use Rattle.std.proofs.Common.{Ok}
 use Prim.Native.Nat.{◌+◌, ◌<◌, ◌≤◌, ℕ}
 use lib.ListN.{get_or-append, get_or, length}
 use lib.Seq.{get_or-append-add}
@@ -14,7 +15,7 @@ use Rattle.frames.specs.Balances.{balances_ok}
 use Rattle.frames.specs.Frame.{body_at}
 use Rattle.frames.specs.Header.{header_of, header_ok}
 use Rattle.sheets.specs.Sheet.{Sheet, balance_in, sheet_from, slot_from, transaction_in}
-use Rattle.frames.specs.Step.{header_loaded, kind_due, loading_after, step_at}
+use Rattle.frames.specs.Step.{header_loaded, kind_due, loading_after, step_at, taken_step}
 use Rattle.frames_load.proofs.LoadLaws.{length_stored, load-adds, room_is, took_balances, took_header, took_it, took_judgement}
 use Rattle.frames_load.specs.Load.{Loads, sheet_so_far, with_balances}
 use Rattle.frames_load.specs.Proper.{CompleteSheet, IsComplete, Loaded, ProperSoFar}
@@ -24,8 +25,6 @@ use Rattle.transactions.specs.Body.{transaction_of}
 use Rattle.transactions.specs.Check.{judge_transaction}
 use Rattle.transactions.specs.Content.{Transaction, no_transaction}
 use Rattle.frames.specs.declared.step.Loading.{Loading}
-use Rattle.frames.specs.declared.step.Step.{Step}
-use Rattle.refusals.specs.declared.Checked.TheVariants.{Fine}
 
 -- each kind of frame
 fresh_so_far : (s : Loading) (S : Sheet) → s.stage ≡ 0 → ProperSoFar s S
@@ -67,8 +66,8 @@ balances_so_far s S ok fits = record {
 }
 
 -- one transaction more
-transactions-more : (a g n : ℕ) (l : List Transaction) (t : Transaction) → length l ≡ n → ((x : ℕ) → x < n → judge_transaction 0 a g (get_or l x no_transaction) ≡ Fine)
-    → judge_transaction 0 a g t ≡ Fine → (x : ℕ) → x < n + 1 → judge_transaction 0 a g (get_or (l ++ (t ∷ [])) x no_transaction) ≡ Fine
+transactions-more : (a g n : ℕ) (l : List Transaction) (t : Transaction) → length l ≡ n → ((x : ℕ) → x < n → judge_transaction 0 a g (get_or l x no_transaction) ≡ Ok tt)
+    → judge_transaction 0 a g t ≡ Ok tt → (x : ℕ) → x < n + 1 → judge_transaction 0 a g (get_or (l ++ (t ∷ [])) x no_transaction) ≡ Ok tt
 transactions-more a g n l t e olds new x h =
     ⊎_elim
     (λ (q : x ≡ n).
@@ -85,12 +84,12 @@ unfolding sheet_so_far sheet_from
 length_so_far s cells = length-tabulate s.loaded (transaction_in s.a cells)
 
 -- a frame that was taken
-module _ (run : List ℕ) (at : ℕ) (s : Loading) (before after : List ℕ) (next : Loading) (end : ℕ) (l : Loads run at s before after (Step.Took next end))
+module _ (run : List ℕ) (at : ℕ) (s : Loading) (before after : List ℕ) (next : Loading) (end : ℕ) (l : Loads run at s before after (taken_step next end))
     (so_far : ProperSoFar s (sheet_so_far s before)) where
   B : List ℕ
   B = body_at run at
 
-  step : step_at run at s ≡ Step.Took next end
+  step : step_at run at s ≡ taken_step next end
   step = (took_it run at s before after next end l).step
 
   next_is : next ≡ loading_after s (kind_due s) (body_at run at)
@@ -120,7 +119,7 @@ module _ (run : List ℕ) (at : ℕ) (s : Loading) (before after : List ℕ) (ne
   load-proper = by_kind (judged-kind s (kind_due s) (body_at run at) at (took_judged s run at next end step).0)
 
 -- once the balances were taken there is room for the whole sheet
-module _ (run : List ℕ) (at : ℕ) (s : Loading) (before after : List ℕ) (next : Loading) (end : ℕ) (l : Loads run at s before after (Step.Took next end)) where
+module _ (run : List ℕ) (at : ℕ) (s : Loading) (before after : List ℕ) (next : Loading) (end : ℕ) (l : Loads run at s before after (taken_step next end)) where
   same_room : (k : ℕ) → 2 ≤ k → kind_due s ≡ k → next.a ≡ s.a → next.t ≡ s.t → slot_from next.a next.t ≤ length after
   same_room k h e a t =
       let T = took_it run at s before after next end l in

@@ -1,15 +1,15 @@
 -- Loading a sheet frame by frame into the caller's cells (document 01, "Slips": "A run is one head, one starts slip, t transactions in number order, then blocks").
 -- Assumes nothing.
-use Rattle.std.specs.Prelude.{ℕ, eqb, ltb, length, List, [], ◌++◌, ◌∷◌, ◌≡◌}
+use Rattle.std.specs.Prelude.{ℕ, eqb, ltb, length, List, [], ◌++◌, ◌∷◌, ◌≡◌, Ok, Err, Some, None}
 use Rattle.std.proofs.lemmas.List.Edits.{sets}
 use Rattle.frames.specs.Balances.{balances_of}
 use Rattle.frames.specs.Frame.{body_at, body_of, frame_at}
 use Rattle.sheets.specs.Sheet.{Sheet, sheet_from, slot_from}
-use Rattle.frames.specs.Step.{header_loaded, kind_due, step_at}
+use Rattle.frames.specs.Step.{header_loaded, kind_due, step_at, taken_step}
 use Rattle.sums.specs.Test.{pick}
 use Rattle.transactions.specs.Body.{transaction_of}
 use Rattle.frames.specs.declared.step.Loading.{Loading}
-use Rattle.frames.specs.declared.step.Step.{Step}
+use Rattle.frames.specs.Step.{Step}
 use Rattle.refusals.specs.declared.Refusal.TheVariants.{BufferShort}
 
 -- the sheet so far, as the cells hold it: as many transactions as were taken. The balances are there from stage 2 on
@@ -27,13 +27,13 @@ body_stored s b cells =
 
 -- what a step leaves in the cells: only a frame that was taken is stored
 abbrev pub loaded_cells : Loading → List ℕ → List ℕ → Step → List ℕ
-loaded_cells s b cells (Step.Took next end) = body_stored s b cells
-loaded_cells s b cells (Step.Refused r) = cells
-loaded_cells s b cells Step.End = cells
+loaded_cells s b cells (Ok (Some (next, end))) = body_stored s b cells
+loaded_cells s b cells (Err r) = cells
+loaded_cells s b cells (Ok None) = cells
 
 -- the answer: 16 first, then the step's
 unfoldable pub load_answer : List ℕ → ℕ → Loading → ℕ → Step
-load_answer run at s n = pick (ltb n (room s)) (Step.Refused (BufferShort (room s))) (step_at run at s)
+load_answer run at s n = pick (ltb n (room s)) (Err (BufferShort (room s))) (step_at run at s)
 
 -- the cells afterwards
 unfoldable pub load_cells : List ℕ → ℕ → Loading → List ℕ → List ℕ
@@ -63,4 +63,4 @@ pub record Adds (s next : Loading) (b before after : List ℕ) : Type 0 where
 -- the contract of the loading step: what it answers and leaves, byte for byte, and what a frame that was taken means for the decoded sheet
 pub record LoadStep (run : List ℕ) (at : ℕ) (s : Loading) (before after : List ℕ) (answer : Step) : Type 0 where
   pub bytes : Loads run at s before after answer
-  pub adds : (next : Loading) (end : ℕ) → answer ≡ Step.Took next end → Adds s next (body_at run at) before after
+  pub adds : (next : Loading) (end : ℕ) → answer ≡ taken_step next end → Adds s next (body_at run at) before after

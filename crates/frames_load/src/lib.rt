@@ -7,7 +7,7 @@ ghost use Rattle.frames_load.specs.Load.{LoadStep, body_stored, room};
 
 use fields::put_bytes;
 use frames::frame::body;
-use frames::step::{Loading, Step, kind_due, next_frame};
+use frames::step::{Loading, kind_due, next_frame};
 use refusals::Refusal;
 
 // The bytes that the sheet takes, once its header is known.
@@ -25,30 +25,29 @@ fn store(sheet: &mut [u8], s: Loading, b: &[u8])
     ensures { sheet.new ≡ body_stored s b.now sheet.old }
 {
     let kind = kind_due(s);
-    if kind == 2 {
-        put_bytes(sheet, 0, b);
-        return;
-    }
-    if kind == 3 {
-        put_bytes(sheet, 8 * (s.a as usize) + 100 * (s.loaded as usize), b);
+    match kind {
+        2 => put_bytes(sheet, 0, b),
+        3 => put_bytes(sheet, 8 * (s.a as usize) + 100 * (s.loaded as usize), b),
+        _ => {}
     }
 }
 
 // The frame at an offset, judged by the sheet so far, and stored.
-pub fn load(run: &[u8], at: usize, s: Loading, sheet: &mut [u8]) -> Step
+pub fn load(
+    run: &[u8],
+    at: usize,
+    s: Loading,
+    sheet: &mut [u8],
+) -> Result<Option<(Loading, usize)>, Refusal>
     ensures { LoadStep run.now at s sheet.old sheet.new result }
 {
     let least = room_of(s);
     if sheet.len() < least {
-        return Step::Refused(Refusal::BufferShort(least));
+        return Err(Refusal::BufferShort(least));
     }
-    let step = next_frame(run, at, s);
-    match step {
-        Step::Took(next, end) => {
-            store(sheet, s, body(run, at));
-            Step::Took(next, end)
-        }
-        Step::Refused(r) => Step::Refused(r),
-        Step::End => Step::End,
-    }
+    let Some((next, end)) = next_frame(run, at, s)? else {
+        return Ok(None);
+    };
+    store(sheet, s, body(run, at));
+    Ok(Some((next, end)))
 }

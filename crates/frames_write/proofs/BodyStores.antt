@@ -1,19 +1,18 @@
 -- The stores of the writers: what each loop's turn and each body's stores leave.
 -- Assumes nothing.
-use Prim.Native.Nat.{◌*◌, ◌+◌, ℕ}
-use lib.ListN.{get_or, length, length-append}
-use lib.Seq.{drop-length, sets, sets-eq}
+use Prim.Native.Nat.{◌*◌, ◌+◌, ◌≤◌, ℕ}
+use lib.ListN.{get_or, length, length-append, take}
+use lib.Seq.{drop-length, get_or-take, length-take-le, sets, sets-eq}
 use mathlib.Core.List.{List, ◌++◌, append-nil}
-use mathlib.Core.Path.{◌∙◌, ◌≡◌, ap, refl}
+use mathlib.Core.Path.{◌∙◌, ◌≡◌, ap, refl, sym}
 use native.Mathlib.Omega.{arith}
 use Rattle.encoding.specs.Body.{block_body, cut_bytes, fixed_bytes, header_body, numbers_bytes}
 use Rattle.fields.proofs.NumberLaws.{length-le_bytes}
-use Rattle.fields.proofs.RowLaws.{length-numbers, list_tabulate, rows_store}
+use Rattle.fields.proofs.RowLaws.{length-numbers, rows_store}
 use Rattle.fields.proofs.StoreLaws.{three_runs}
 use Rattle.fields.specs.Number.{le_bytes, store_number}
-use Rattle.fields.specs.Rows.{list_bytes, rows_to}
-use Rattle.sums.proofs.SeqLaws.{length-tabulate}
-use Rattle.sums.specs.Seq.{tabulate}
+use Rattle.fields.specs.Rows.{rows_to}
+use Rattle.sums.proofs.SeqLaws.{length-tabulate, tabulate_is}
 use Rattle.frames.specs.declared.block.Block.{Block}
 use Rattle.frames.specs.declared.header.Header.{Header}
 
@@ -42,6 +41,7 @@ block_stores l m b cites =
     let cut : 10 + 2 * m ≡ 10 + length (cut_bytes m b.cut) = simp (length-numbers, length-tabulate) refl in
     three_runs (fixed_bytes b (length cites)) (cut_bytes m b.cut) (numbers_bytes cites) l 10 (10 + 2 * m) fixed cut
 
-pub numbers-all : (l : List ℕ) → numbers_bytes (tabulate (length l) (λ k. get_or l k 0)) ≡ numbers_bytes l
-unfolding list_bytes
-numbers-all l = list_tabulate (le_bytes 2) 0 (length l) (λ k. get_or l k 0)
+-- the first m entries of a cut
+pub cut_front : (m : ℕ) (cut : List ℕ) → m ≤ length cut → cut_bytes m cut ≡ numbers_bytes (take m cut)
+cut_front m cut h =
+    ap numbers_bytes (tabulate_is (take m cut) m (λ j. get_or cut j 0) 0 (length-take-le m cut h) (λ j lt. sym (get_or-take m cut j 0 lt)))

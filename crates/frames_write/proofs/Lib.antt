@@ -1,2 +1,3 @@
--- Laws of the stores.
+-- Laws of the stores, and of tests of whole lists.
 mod BodyStores
+mod TestLaws

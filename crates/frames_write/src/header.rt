@@ -4,25 +4,26 @@ ghost use Rattle.encoding.specs.Body.{frame_bytes, header_body};
 ghost use Rattle.encoding.specs.Verdict.{header_verdict};
 ghost use Rattle.encoding.specs.Writing.{Wrote};
 
-use encoding::emit::{Written, put_frame};
+use encoding::emit::put_frame;
 use fields::put_u16;
 use frames::header::{Header, header_ok};
 use frames::step::{Loading, kind_due};
-use refusals::{Checked, Refusal};
+use refusals::Refusal;
 
-fn header_verdict(s: Loading, h: Header) -> Checked
+#[tactic(auto, unfolding(encoding::specs::Verdict::header_verdict, sums::specs::Test::pick))]
+fn header_verdict(s: Loading, h: Header) -> Result<(), Refusal>
     ensures { result ≡ header_verdict s h }
 {
     if kind_due(s) != 1 {
-        return Checked::Refused(Refusal::KindNotDue(0));
+        return Err(Refusal::KindNotDue(0));
     }
-    if header_ok(h.m, h.a, h.g, h.t) {
-        Checked::Fine
-    } else {
-        Checked::Refused(Refusal::OutOfRange(0))
+    if !header_ok(h.m, h.a, h.g, h.t) {
+        return Err(Refusal::OutOfRange(0));
     }
+    Ok(())
 }
 
+#[tactic(auto, using(crate::proofs::BodyStores::header_stores))]
 fn header_body(h: Header) -> [u8; 8]
     ensures { result ≡ header_body h }
 {
@@ -34,10 +35,8 @@ fn header_body(h: Header) -> [u8; 8]
     body
 }
 
-pub fn write_header(out: &mut [u8], s: Loading, h: Header) -> Written
+pub fn write_header(out: &mut [u8], s: Loading, h: Header) -> Result<usize, Refusal>
     ensures { Wrote (header_verdict s h) (frame_bytes 1 (header_body h)) out.old out.new result }
 {
-    let checked = header_verdict(s, h);
-    let body = header_body(h);
-    put_frame(out, checked, 1, &body, 8)
+    put_frame(out, header_verdict(s, h), 1, &header_body(h))
 }

@@ -1,5 +1,6 @@
 -- The answer to an offered frame, test by test, as the code goes through them.
 -- Assumes nothing.
+use Rattle.std.proofs.Common.{Ok, Err, None}
 use Prim.Native.Nat.{◌*◌, ◌+◌, ◌<◌, ◌≤◌, ℕ}
 use borrow.Author.Tests.{eq-eqb, le-leb, lt-leb, ne_eqb, not-false, not-true}
 use lib.Dec.{eqb, leb}
@@ -16,7 +17,7 @@ use Rattle.fields.specs.Number.{le}
 use Rattle.frames.proofs.BlockLaws.{block_checked}
 use Rattle.frames.specs.Block.{check_block, cites_of}
 use Rattle.frames.specs.Block as frames
-use Rattle.frames.specs.Frame.{body_of, frame_at}
+use Rattle.frames.specs.Frame.{body_of, frame_at, whole_frame}
 use Rattle.state.proofs.LengthLaws.{needs_are}
 use Rattle.state.specs.Cells.{past_in}
 use Rattle.state.specs.Lengths.{least_lengths, needs_list}
@@ -34,9 +35,9 @@ use Rattle.sums.proofs.TestLaws.{by-pick, pick-false, pick_true}
 use Rattle.sums.specs.Test.{pick}
 use Rattle.admission.specs.declared.citations.Citations.{Citations}
 use Rattle.frames.specs.declared.block.Block.{Block}
-use Rattle.frames.specs.declared.frame.Framed.{Framed}
+use Rattle.frames.specs.Frame.{Framed}
 use Rattle.state.specs.declared.ledger.Ledger.{Ledger}
-use Rattle.refusals.specs.declared.Checked.{Checked}
+use Rattle.refusals.specs.Refusals.{Checked}
 use Rattle.refusals.specs.declared.Refusal.{Refusal}
 use Rattle.refusals.specs.declared.Refusal.TheVariants.{KindNotDue}
 
@@ -50,7 +51,7 @@ module _ (l : Ledger) (K : Kept) (kind : ℕ) (b : List ℕ) (at : ℕ) where
   whole-early e = sym (pick-false (complete l) _ _ e)
 
   module _ (whole : complete l ≡ true) where
-    by-parse : (p : Parsed) → parsed_frame (sheet_of l K).m b at (Framed.Whole kind 0 0) ≡ p → after l K p ≡ whole_answer l K kind b at
+    by-parse : (p : Parsed) → parsed_frame (sheet_of l K).m b at (whole_frame kind 0 0) ≡ p → after l K p ≡ whole_answer l K kind b at
     unfolding whole_answer
     by-parse p e = sym (pick_true (complete l) _ _ whole ∙ ap (after l K) e)
 
@@ -59,7 +60,7 @@ module _ (l : Ledger) (K : Kept) (kind : ℕ) (b : List ℕ) (at : ℕ) where
     whole-kind n = by-parse (wrong (KindNotDue at)) (pick_true (not (eqb kind 4)) _ _ (ap not (ne_eqb kind 4 n)))
 
     module _ (due : kind ≡ 4) (c : Checked) (ec : c ≡ check_block b at l.loading.m) where
-      parsed : parsed_frame (sheet_of l K).m b at (Framed.Whole kind 0 0) ≡ parsed_body b (sheet_of l K).m c
+      parsed : parsed_frame (sheet_of l K).m b at (whole_frame kind 0 0) ≡ parsed_body b (sheet_of l K).m c
       parsed =
           pick-false (not (eqb kind 4)) _ _ (ap not (eq-eqb kind 4 due))
           ∙ ap (parsed_body b (sheet_of l K).m) (ap (check_block b at) (sheet-m K.sheet (sizes_of l)) ∙ sym ec)
@@ -69,18 +70,18 @@ module _ (l : Ledger) (K : Kept) (kind : ℕ) (b : List ℕ) (at : ℕ) where
       whole-checked {u} q h = go c refl
         where
           go : (d : Checked) → c ≡ d → reply_to c ≡ whole_answer l K kind b at
-          go Checked.Fine e = absurd (never (sym (not-true u h) ∙ q ∙ ap (λ (x : Checked). is_accepted (reply_to x)) e))
+          go (Ok _) e = absurd (never (sym (not-true u h) ∙ q ∙ ap (λ (x : Checked). is_accepted (reply_to x)) e))
             where
               never : false ≡ true → ⊥
               never z = let w : ◌≡◌ {A = ℕ} 0 1 = cc in omega arith
-          go (Checked.Refused r) e = ap reply_to e ∙ by-parse (wrong r) (parsed ∙ ap (parsed_body b (sheet_of l K).m) e)
+          go (Err r) e = ap reply_to e ∙ by-parse (wrong r) (parsed ∙ ap (parsed_body b (sheet_of l K).m) e)
 
-      pub fine-is : {u : Bool} → u ≡ is_accepted (reply_to c) → not u ≡ false → c ≡ Checked.Fine
+      pub fine-is : {u : Bool} → u ≡ is_accepted (reply_to c) → not u ≡ false → c ≡ Ok tt
       fine-is {u} q h = go c refl
         where
-          go : (d : Checked) → c ≡ d → c ≡ Checked.Fine
-          go Checked.Fine e = e
-          go (Checked.Refused r) e = absurd (never (sym (not-false u h) ∙ q ∙ ap (λ (x : Checked). is_accepted (reply_to x)) e))
+          go : (d : Checked) → c ≡ d → c ≡ Ok tt
+          go (Ok _) e = e
+          go (Err r) e = absurd (never (sym (not-false u h) ∙ q ∙ ap (λ (x : Checked). is_accepted (reply_to x)) e))
             where
               never : true ≡ false → ⊥
               never z = let w : ◌≡◌ {A = ℕ} 0 1 = cc in omega arith
@@ -130,23 +131,23 @@ module _ (l : Ledger) (K : Kept) (lent bytes : List ℕ) (at : ℕ) (left : at <
         (λ t. begun _ _ (chain_go room fine go (full t ∙ ap (λ (g : Framed). after l K (parsed_frame (sheet_of l K).m (body_of (frame_at bytes at) bytes) at g)) (sym q))))
         (λ t. begun _ _ (chain_go room fine go (early t ∙ ap (early_frame at) (sym q))))
 
-    pub frame_refused : (x : Refusal) → frame_at bytes at ≡ Framed.Refused x → refused (refusal_number x) (refusal_place x) ≡ answer_from l K (frame lent bytes at)
+    pub frame_refused : (x : Refusal) → frame_at bytes at ≡ Err x → refused (refusal_number x) (refusal_place x) ≡ answer_from l K (frame lent bytes at)
     unfolding ◌then◌
-    frame_refused x q = by_frame (Framed.Refused x) _ q (λ t. refl) (λ t. refl)
+    frame_refused x q = by_frame (Err x) _ q (λ t. refl) (λ t. refl)
 
-    pub frame_end : frame_at bytes at ≡ Framed.End → refused 3 at ≡ answer_from l K (frame lent bytes at)
+    pub frame_end : frame_at bytes at ≡ Ok None → refused 3 at ≡ answer_from l K (frame lent bytes at)
     unfolding ◌then◌
-    frame_end q = by_frame Framed.End _ q (λ t. refl) (λ t. refl)
+    frame_end q = by_frame (Ok None) _ q (λ t. refl) (λ t. refl)
 
-    pub frame-whole : {k s n : ℕ} → frame_at bytes at ≡ Framed.Whole k s n → (a : Answer) (b : List ℕ) → b ≡ body_of (frame_at bytes at) bytes → a ≡ whole_answer l K k b at → a ≡ answer_from l K (frame lent bytes at)
+    pub frame-whole : {k s n : ℕ} → frame_at bytes at ≡ whole_frame k s n → (a : Answer) (b : List ℕ) → b ≡ body_of (frame_at bytes at) bytes → a ≡ whole_answer l K k b at → a ≡ answer_from l K (frame lent bytes at)
     unfolding whole_answer
     frame-whole {k} {s} {n} q a b eb w =
-        by_frame (Framed.Whole k s n) a q
-        (λ t. w ∙ pick_true (complete l) _ _ t ∙ ap (λ (x : List ℕ). after l K (parsed_frame (sheet_of l K).m x at (Framed.Whole k s n))) eb)
+        by_frame (whole_frame k s n) a q
+        (λ t. w ∙ pick_true (complete l) _ _ t ∙ ap (λ (x : List ℕ). after l K (parsed_frame (sheet_of l K).m x at (whole_frame k s n))) eb)
         (λ t. w ∙ pick-false (complete l) _ _ t)
 
 -- the block that the code reads is the one that the body says
-pub values-read : (b : List ℕ) (at m : ℕ) (B : Block) (c : Citations) → check_block b at m ≡ Checked.Fine → B ≡ frames.block_of b m → cites_in c ≡ take 32 (cites_of b m) → values_of B c ≡ values_in b m
+pub values-read : (b : List ℕ) (at m : ℕ) (B : Block) (c : Citations) → check_block b at m ≡ Ok tt → B ≡ frames.block_of b m → cites_in c ≡ take 32 (cites_of b m) → values_of B c ≡ values_in b m
 unfolding values_with frames.block_of cites_of
 values-read b at m B c fine eb ec =
     let few = (block_checked b at m fine).few in

@@ -1,5 +1,6 @@
 -- From the answer to what a call leaves: a refused offer leaves everything as it was, an accepted one is taken.
 -- Assumes nothing.
+use Rattle.std.proofs.Common.{Ok, Err, None, Some}
 use Prim.Native.Nat.{◌<◌, ◌≤◌, ℕ}
 use borrow.Author.Tests.{eqb-true, le-leb, le-ltb, ltb-false, not-false, not-true}
 use lib.Dec.{eqb, leb}
@@ -38,10 +39,10 @@ use Rattle.sums.proofs.TestLaws.{any_to_false, pick-false, pick_true}
 use Rattle.sums.specs.Test.{both, pick}
 use Rattle.admission.specs.declared.citations.Citations.{Citations}
 use Rattle.frames.specs.declared.block.Block.{Block}
-use Rattle.frames.specs.declared.frame.Framed.{Framed}
+use Rattle.frames.specs.Frame.{Framed}
 use Rattle.offers.specs.declared.answer.Answer as code
 use Rattle.state.specs.declared.ledger.Ledger.{Ledger}
-use Rattle.refusals.specs.declared.Checked.{Checked}
+use Rattle.refusals.specs.Refusals.{Checked}
 use Rattle.refusals.specs.declared.Refusal.{Refusal}
 use Rattle.refusals.specs.declared.Refusal.TheVariants.{KindNotDue}
 
@@ -97,9 +98,9 @@ unfolding early_answer early_front
 early-frame S lent bytes at q = go (frame_at bytes at) (then_pass _ _ (then_pass _ _ q).1).1
   where
     go : (f : Framed) → early_frame at f ≡ accepted → ⊥
-    go (Framed.Whole k s n) z = never_3 at z
-    go (Framed.Refused r) z = let w : ◌≡◌ {A = ℕ} 0 1 = cc in omega arith
-    go Framed.End z = never_3 at z
+    go (Ok (Some span)) z = never_3 at z
+    go (Err r) z = let w : ◌≡◌ {A = ℕ} 0 1 = cc in omega arith
+    go (Ok None) z = never_3 at z
 
 -- what is accepted was offered on a complete sheet
 module _ (l : Ledger) (K : Kept) (o : Offer) (early : early_answer (sheet_of l K) o ≡ accepted → ⊥) (e : accepted ≡ answer_from l K o) where
@@ -186,19 +187,19 @@ module _ (l : Ledger) (K : Kept) (lent bytes : List ℕ) (at : ℕ) (e : accepte
   frame_passes : answer (sheet_of l K) (past_in (cells_of l K)) (frame lent bytes at) ≡ accepted
   frame_passes = passes-all l K (frame lent bytes at) (early-frame (sheet_of l K) lent bytes at) e
 
-  parsed_is : (parse (sheet_of l K) bytes at ≡ block (values_in (body_of (frame_at bytes at) bytes) (sheet_of l K).m)) × (check_block (body_of (frame_at bytes at) bytes) at (sheet_of l K).m ≡ Checked.Fine)
+  parsed_is : (parse (sheet_of l K) bytes at ≡ block (values_in (body_of (frame_at bytes at) bytes) (sheet_of l K).m)) × (check_block (body_of (frame_at bytes at) bytes) at (sheet_of l K).m ≡ Ok tt)
   unfolding answer front_answer parse
   parsed_is = by_frame (frame_at bytes at) (then_pass _ _ (then_pass _ _ (then_pass _ _ frame_passes).1).1).0
     where
       never : (r : Refusal) → parsed_answer (wrong r) ≡ accepted → ⊥
       never r q = let w : ◌≡◌ {A = ℕ} 0 1 = cc in omega arith
 
-      by_check : (c : Checked) → parsed_answer (parsed_body B (sheet_of l K).m c) ≡ accepted → (parsed_body B (sheet_of l K).m c ≡ block (values_in B (sheet_of l K).m)) × (c ≡ Checked.Fine)
-      by_check Checked.Fine q = (refl, refl)
-      by_check (Checked.Refused r) q = absurd (never r q)
+      by_check : (c : Checked) → parsed_answer (parsed_body B (sheet_of l K).m c) ≡ accepted → (parsed_body B (sheet_of l K).m c ≡ block (values_in B (sheet_of l K).m)) × (c ≡ Ok tt)
+      by_check (Ok _) q = (refl, refl)
+      by_check (Err r) q = absurd (never r q)
 
       by_kind : (k : ℕ) (t : Bool) → not (eqb k 4) ≡ t → parsed_answer (pick t (wrong (KindNotDue at)) (parsed_body B (sheet_of l K).m (check_block B at (sheet_of l K).m))) ≡ accepted
-          → (pick t (wrong (KindNotDue at)) (parsed_body B (sheet_of l K).m (check_block B at (sheet_of l K).m)) ≡ block (values_in B (sheet_of l K).m)) × (check_block B at (sheet_of l K).m ≡ Checked.Fine)
+          → (pick t (wrong (KindNotDue at)) (parsed_body B (sheet_of l K).m (check_block B at (sheet_of l K).m)) ≡ block (values_in B (sheet_of l K).m)) × (check_block B at (sheet_of l K).m ≡ Ok tt)
       by_kind k true z q = absurd (never (KindNotDue at) (ap parsed_answer (sym (pick_true true (wrong (KindNotDue at)) _ refl)) ∙ q))
       by_kind k false z q =
           let p = pick-false false (wrong (KindNotDue at)) (parsed_body B (sheet_of l K).m (check_block B at (sheet_of l K).m)) refl in
@@ -206,10 +207,10 @@ module _ (l : Ledger) (K : Kept) (lent bytes : List ℕ) (at : ℕ) (e : accepte
           (p ∙ w.0, w.1)
 
       by_frame : (f : Framed) → parsed_answer (parsed_frame (sheet_of l K).m B at f) ≡ accepted
-          → (parsed_frame (sheet_of l K).m B at f ≡ block (values_in B (sheet_of l K).m)) × (check_block B at (sheet_of l K).m ≡ Checked.Fine)
-      by_frame (Framed.Whole k s n) q = by_kind k (not (eqb k 4)) refl q
-      by_frame (Framed.Refused r) q = absurd (never r q)
-      by_frame Framed.End q = absurd (never (KindNotDue at) q)
+          → (parsed_frame (sheet_of l K).m B at f ≡ block (values_in B (sheet_of l K).m)) × (check_block B at (sheet_of l K).m ≡ Ok tt)
+      by_frame (Ok (Some span)) q = by_kind span.kind (not (eqb span.kind 4)) refl q
+      by_frame (Err r) q = absurd (never r q)
+      by_frame (Ok None) q = absurd (never (KindNotDue at) q)
 
   m_is : (sheet_of l K).m ≡ l.loading.m
   m_is = sheet-m K.sheet (sizes_of l)
@@ -218,7 +219,7 @@ module _ (l : Ledger) (K : Kept) (lent bytes : List ℕ) (at : ℕ) (e : accepte
   pub frame-offers : offered (sheet_of l K) (frame lent bytes at) ≡ values_in (body_of (frame_at bytes at) bytes) l.loading.m
   frame-offers = ap block_of parsed_is.0 ∙ ap (values_in (body_of (frame_at bytes at) bytes)) m_is
 
-  pub frame_fine : check_block (body_of (frame_at bytes at) bytes) 0 l.loading.m ≡ Checked.Fine
+  pub frame_fine : check_block (body_of (frame_at bytes at) bytes) 0 l.loading.m ≡ Ok tt
   frame_fine =
       let c = block_checked (body_of (frame_at bytes at) bytes) at l.loading.m (ap (check_block (body_of (frame_at bytes at) bytes) at) (sym m_is) ∙ parsed_is.1) in
       block-fine (body_of (frame_at bytes at) bytes) 0 l.loading.m c.fixed c.long c.few

@@ -10,7 +10,7 @@ use Rattle.plain.specs.Offers.{Offer, block_of, offered, parsed_frame}
 use Rattle.plain.specs.Plain.{answer, block_answer, parsed_answer}
 use Rattle.settlement.specs.Tables.{Buffers}
 use Rattle.sums.specs.Test.{pick}
-use Rattle.frames.specs.declared.frame.Framed.{Framed}
+use Rattle.frames.specs.Frame.{whole_frame}
 use Rattle.offers.specs.declared.answer.Answer.{Answer}
 use Rattle.state.specs.declared.ledger.Ledger.{Ledger}
 use Rattle.offers.specs.declared.answer.Offered.{Offered}
@@ -30,8 +30,8 @@ answer_from l K o = pick (complete l) (answer (sheet_of l K) (past_in (cells_of 
 unfoldable pub whole_answer : Ledger → Kept → ℕ → List ℕ → ℕ → plain.Answer
 whole_answer l K kind b at =
     pick (complete l)
-    (parsed_answer (parsed_frame (sheet_of l K).m b at (Framed.Whole kind 0 0))
-    then block_answer (sheet_of l K) (past_in (cells_of l K)) (block_of (parsed_frame (sheet_of l K).m b at (Framed.Whole kind 0 0))))
+    (parsed_answer (parsed_frame (sheet_of l K).m b at (whole_frame kind 0 0))
+    then block_answer (sheet_of l K) (past_in (cells_of l K)) (block_of (parsed_frame (sheet_of l K).m b at (whole_frame kind 0 0))))
     (refused 3 at)
 
 -- the offer o, made to the ledger l with the buffers K and W: it returns r and leaves K' and W'

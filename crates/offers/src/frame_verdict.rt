@@ -1,5 +1,5 @@
 // The answer to an offered frame, before anything is written.
-ghost use Rattle.std.specs.Prelude.{[], ◌≡◌};
+ghost use Rattle.std.specs.Prelude.{[], length, ◌<◌, ◌≡◌};
 ghost use Rattle.admission.specs.Replies.{reply_to};
 ghost use Rattle.state.specs.Lengths.{needs_list};
 ghost use Rattle.offers.specs.Offering.{answer_from, reply_of, whole_answer};
@@ -7,13 +7,11 @@ ghost use Rattle.state.specs.State.{kept};
 ghost use Rattle.plain.specs.Offers as offers;
 
 use crate::answer::Answer;
-use crate::answering::answer_to;
 use crate::verdict::block_verdict;
 use admission::citations::citations_in;
-use admission::replies::is_fine;
 use frames::block::{block_of, check_block};
-use frames::frame::{Framed, body, frame};
-use refusals::{Checked, Refusal};
+use frames::frame::{Span, body, frame};
+use refusals::Refusal;
 use state::ledger::{Ledger, is_complete};
 use state::lengths::{Lengths, check_lengths, least_lengths};
 
@@ -27,7 +25,7 @@ fn whole_verdict(
     kind: u16,
     content: &[u8],
     at: usize,
-) -> Checked
+) -> Result<(), Refusal>
     ensures { reply_to result
         ≡ whole_answer ledger
         (kept sheet.now ranks.now cuts.now cites.now [])
@@ -36,16 +34,13 @@ fn whole_verdict(
         at }
 {
     if !is_complete(ledger) {
-        return Checked::Refused(Refusal::KindNotDue(at));
+        return Err(Refusal::KindNotDue(at));
     }
     if kind != 4 {
-        return Checked::Refused(Refusal::KindNotDue(at));
+        return Err(Refusal::KindNotDue(at));
     }
     let m = ledger.loading.m;
-    let checked = check_block(content, at, m);
-    if !is_fine(checked) {
-        return checked;
-    }
+    check_block(content, at, m)?;
     block_verdict(
         ledger,
         sheet,
@@ -55,6 +50,39 @@ fn whole_verdict(
         block_of(content, m),
         citations_in(content, m),
     )
+}
+
+// The answer to the frame at an offset at which a byte is left.
+fn placed_verdict(
+    ledger: Ledger,
+    lent: Lengths,
+    sheet: &[u8],
+    ranks: &[u32],
+    cuts: &[u16],
+    cites: &[u16],
+    bytes: &[u8],
+    at: usize,
+) -> Result<(), Refusal>
+    ensures { at < length bytes.now
+        → reply_to result
+        ≡ answer_from ledger
+        (kept sheet.now ranks.now cuts.now cites.now [])
+        (offers.frame (needs_list lent) bytes.now at) }
+{
+    check_lengths(least_lengths(ledger), lent)?;
+    match frame(bytes, at)? {
+        Some(Span { kind, .. }) => whole_verdict(
+            ledger,
+            sheet,
+            ranks,
+            cuts,
+            cites,
+            kind,
+            body(bytes, at),
+            at,
+        ),
+        None => Err(Refusal::KindNotDue(at)),
+    }
 }
 
 // The answer to the frame at an offset, where buffers of the lengths `lent` are lent.
@@ -76,17 +104,5 @@ pub fn frame_verdict(
     if bytes.len() <= at {
         return Answer::NoByte;
     }
-    let room = check_lengths(least_lengths(ledger), lent);
-    if !is_fine(room) {
-        return answer_to(room);
-    }
-    match frame(bytes, at) {
-        Framed::Refused(r) => Answer::Refused(r),
-        Framed::End => Answer::Refused(Refusal::KindNotDue(at)),
-        Framed::Whole {
-            kind,
-            start: _,
-            end: _,
-        } => answer_to(whole_verdict(ledger, sheet, ranks, cuts, cites, kind, body(bytes, at), at)),
-    }
+    Answer::from(placed_verdict(ledger, lent, sheet, ranks, cuts, cites, bytes, at))
 }

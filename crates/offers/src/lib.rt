@@ -3,7 +3,6 @@
 #![tactic(auto)]
 
 pub mod answer;
-mod answering;
 mod frame_verdict;
 pub mod offer;
 mod verdict;

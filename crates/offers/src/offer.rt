@@ -6,8 +6,7 @@ ghost use Rattle.plain.specs.Offers.{values};
 ghost use Rattle.settlement.specs.Tables.{buffers};
 ghost use Rattle.state.specs.State.{kept, lengths_of};
 
-use crate::answer::Offered;
-use crate::answering::is_accepted;
+use crate::answer::{Answer, Offered};
 use crate::frame_verdict::frame_verdict;
 use crate::verdict::values_verdict;
 use acceptance::accept::take_block;
@@ -49,8 +48,9 @@ pub fn offer_block(
         table: table.len(),
         order: order.len(),
     };
-    let answer = values_verdict(ledger, lent, sheet, ranks, cuts, cites, block, citations);
-    if !is_accepted(answer) {
+    let verdict = values_verdict(ledger, lent, sheet, ranks, cuts, cites, block, citations);
+    let answer = Answer::from(verdict);
+    if !answer.is_accepted() {
         return Offered { answer, ledger };
     }
     let taken = take_block(
@@ -105,7 +105,7 @@ pub fn offer_frame(
         order: order.len(),
     };
     let verdict = frame_verdict(ledger, lent, sheet, ranks, cuts, cites, bytes, at);
-    if !is_accepted(verdict) {
+    if !verdict.is_accepted() {
         return Offered {
             answer: verdict,
             ledger,

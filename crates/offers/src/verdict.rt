@@ -9,14 +9,11 @@ ghost use Rattle.state.specs.State.{cells_of, kept, sheet_of};
 ghost use Rattle.plain.specs.Offers.{values};
 ghost use Rattle.plain.specs.Plain.{block_answer};
 
-use crate::answer::Answer;
-use crate::answering::answer_to;
 use admission::block::{check_block, check_values};
 use admission::citations::{Citations, citations_of};
-use admission::replies::is_fine;
 use frames::block::Block;
 use ordering::usable_counts;
-use refusals::{Checked, Refusal};
+use refusals::Refusal;
 use state::ledger::{Ledger, is_complete, sizes};
 use state::lengths::{Lengths, check_lengths, least_lengths};
 
@@ -29,7 +26,7 @@ pub fn block_verdict(
     cites: &[u16],
     block: Block,
     list: Citations,
-) -> Checked
+) -> Result<(), Refusal>
     ensures { reply_to result
         ≡ block_answer
         (sheet_of ledger (kept sheet.now ranks.now cuts.now cites.now []))
@@ -60,25 +57,19 @@ pub fn values_verdict(
     cites: &[u16],
     block: Block,
     citations: &[u16],
-) -> Answer
-    ensures { reply_of result
+) -> Result<(), Refusal>
+    ensures { reply_to result
         ≡ answer_from ledger
         (kept sheet.now ranks.now cuts.now cites.now [])
         (values (needs_list lent) (values_with block citations.now)) }
 {
-    let room = check_lengths(least_lengths(ledger), lent);
-    if !is_fine(room) {
-        return answer_to(room);
-    }
+    check_lengths(least_lengths(ledger), lent)?;
     if !is_complete(ledger) {
-        return Answer::Refused(Refusal::KindNotDue(0));
+        return Err(Refusal::KindNotDue(0));
     }
     let cut = block.cut;
-    let front = check_values(ledger.loading.m, cut, citations.len());
-    if !is_fine(front) {
-        return answer_to(front);
-    }
-    answer_to(block_verdict(
+    check_values(ledger.loading.m, cut, citations.len())?;
+    block_verdict(
         ledger,
         sheet,
         ranks,
@@ -86,5 +77,5 @@ pub fn values_verdict(
         cites,
         block,
         citations_of(citations),
-    ))
+    )
 }

@@ -8,8 +8,8 @@ use mathlib.Core.List.{[], ◌∷◌}
 use mathlib.Core.Path.{◌∙◌, ◌≡◌, ap, ap₂, refl, sym}
 use native.Mathlib.Decide.{dec_lt}
 use native.Mathlib.Omega.{arith}
-use Rattle.ordering.specs.declared.pair.Comparison.{Comparison}
-use Rattle.ordering.specs.declared.pair.Comparison.TheVariants.{ComesAfter, ComesFirst, Neither}
+use Rattle.std.specs.declared.cmp.Ordering.{Ordering}
+use Rattle.std.specs.declared.cmp.Ordering.TheVariants.{Equal, Greater, Less}
 use Rattle.ordering.specs.declared.pair.Pair.{Pair}
 use Rattle.ordering.specs.Order.{bar_of, ceiling_of, key_of}
 use Rattle.ordering.specs.Inner.{next_pair}
@@ -26,9 +26,9 @@ use Rattle.sums.specs.Test.{pick}
 
 module _ (p q : Pair) where
   -- what holds in each of the five cases holds of the comparison
-  pub by_cases : (P : Comparison → Type 0) → (p.rank < q.rank → P ComesFirst) → (q.rank < p.rank → P ComesAfter)
-      → (p.rank ≡ q.rank → p.instance < q.instance → P ComesFirst) → (p.rank ≡ q.rank → q.instance < p.instance → P ComesAfter)
-      → (p.rank ≡ q.rank → p.instance ≡ q.instance → P Neither) → P (compared p q)
+  pub by_cases : (P : Ordering → Type 0) → (p.rank < q.rank → P Less) → (q.rank < p.rank → P Greater)
+      → (p.rank ≡ q.rank → p.instance < q.instance → P Less) → (p.rank ≡ q.rank → q.instance < p.instance → P Greater)
+      → (p.rank ≡ q.rank → p.instance ≡ q.instance → P Equal) → P (compared p q)
   unfolding compared
   by_cases P lower higher first after same =
       by-pick P (ltb p.rank q.rank) (λ t. lower (ltb-true p.rank q.rank t)) (λ t.
@@ -40,25 +40,25 @@ module _ (p q : Pair) where
 
 -- the cases one by one, as the code meets them
 module _ (p q : Pair) where
-  pub lower_rank : p.rank < q.rank → ComesFirst ≡ compared p q
+  pub lower_rank : p.rank < q.rank → Less ≡ compared p q
   lower_rank l =
-      by_cases p q (λ c. ComesFirst ≡ c) (λ h. refl) (λ h. absurd (omega arith)) (λ e h. refl) (λ e h. absurd (omega arith)) (λ e h. absurd (omega arith))
+      by_cases p q (λ c. Less ≡ c) (λ h. refl) (λ h. absurd (omega arith)) (λ e h. refl) (λ e h. absurd (omega arith)) (λ e h. absurd (omega arith))
 
-  pub higher_rank : q.rank < p.rank → ComesAfter ≡ compared p q
+  pub higher_rank : q.rank < p.rank → Greater ≡ compared p q
   higher_rank l =
-      by_cases p q (λ c. ComesAfter ≡ c) (λ h. absurd (omega arith)) (λ h. refl) (λ e h. absurd (omega arith)) (λ e h. refl) (λ e h. absurd (omega arith))
+      by_cases p q (λ c. Greater ≡ c) (λ h. absurd (omega arith)) (λ h. refl) (λ e h. absurd (omega arith)) (λ e h. refl) (λ e h. absurd (omega arith))
 
-  pub lower_instance : p.rank ≡ q.rank → p.instance < q.instance → ComesFirst ≡ compared p q
+  pub lower_instance : p.rank ≡ q.rank → p.instance < q.instance → Less ≡ compared p q
   lower_instance k l =
-      by_cases p q (λ c. ComesFirst ≡ c) (λ h. refl) (λ h. absurd (omega arith)) (λ e h. refl) (λ e h. absurd (omega arith)) (λ e h. absurd (omega arith))
+      by_cases p q (λ c. Less ≡ c) (λ h. refl) (λ h. absurd (omega arith)) (λ e h. refl) (λ e h. absurd (omega arith)) (λ e h. absurd (omega arith))
 
-  pub higher_instance : p.rank ≡ q.rank → q.instance < p.instance → ComesAfter ≡ compared p q
+  pub higher_instance : p.rank ≡ q.rank → q.instance < p.instance → Greater ≡ compared p q
   higher_instance k l =
-      by_cases p q (λ c. ComesAfter ≡ c) (λ h. absurd (omega arith)) (λ h. refl) (λ e h. absurd (omega arith)) (λ e h. refl) (λ e h. absurd (omega arith))
+      by_cases p q (λ c. Greater ≡ c) (λ h. absurd (omega arith)) (λ h. refl) (λ e h. absurd (omega arith)) (λ e h. refl) (λ e h. absurd (omega arith))
 
-  pub equal_pairs : p.rank ≡ q.rank → p.instance ≡ q.instance → Neither ≡ compared p q
+  pub equal_pairs : p.rank ≡ q.rank → p.instance ≡ q.instance → Equal ≡ compared p q
   equal_pairs k l =
-      by_cases p q (λ c. Neither ≡ c) (λ h. absurd (omega arith)) (λ h. absurd (omega arith)) (λ e h. absurd (omega arith)) (λ e h. absurd (omega arith)) (λ e h. refl)
+      by_cases p q (λ c. Equal ≡ c) (λ h. absurd (omega arith)) (λ h. absurd (omega arith)) (λ e h. absurd (omega arith)) (λ e h. absurd (omega arith)) (λ e h. refl)
 
 -- ---- the first of two pairs
 

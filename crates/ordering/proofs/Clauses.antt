@@ -5,7 +5,7 @@ use lib.ListN.{length}
 use mathlib.Core.List.{[], ◌∷◌}
 use mathlib.Core.Logic.{◌↔◌}
 use mathlib.Core.Path.{◌≡◌}
-use Rattle.ordering.specs.declared.pair.Comparison.TheVariants.{ComesAfter, ComesFirst, Neither}
+use Rattle.std.specs.declared.cmp.Ordering.TheVariants.{Equal, Greater, Less}
 use Rattle.ordering.specs.declared.pair.Pair.{Pair}
 use Rattle.ordering.specs.Claim.{Ascending, LogOf, LogRules, PairRules, key_in, times_in}
 use Rattle.ordering.specs.Order.{bar_of, global_log, key_of, last_of, ref_of}
@@ -64,23 +64,23 @@ module _ (p : LogRules) where
 
 module _ (p : PairRules) where
   -- with the next two laws: up to 16 instances the comparison is that of the numbers and nothing else
-  pub pairs_by_number : (a b : Pair) → a.instance < 16 → b.instance < 16 → (compared a b ≡ ComesFirst) ↔ (number_of a < number_of b)
+  pub pairs_by_number : (a b : Pair) → a.instance < 16 → b.instance < 16 → (compared a b ≡ Less) ↔ (number_of a < number_of b)
   pairs_by_number = p.first
 
-  pub pairs_after-number : (a b : Pair) → a.instance < 16 → b.instance < 16 → (compared a b ≡ ComesAfter) ↔ (number_of b < number_of a)
+  pub pairs_after-number : (a b : Pair) → a.instance < 16 → b.instance < 16 → (compared a b ≡ Greater) ↔ (number_of b < number_of a)
   pairs_after-number = p.after
 
-  pub pairs_same_number : (a b : Pair) → a.instance < 16 → b.instance < 16 → (compared a b ≡ Neither) ↔ (number_of a ≡ number_of b)
+  pub pairs_same_number : (a b : Pair) → a.instance < 16 → b.instance < 16 → (compared a b ≡ Equal) ↔ (number_of a ≡ number_of b)
   pairs_same_number = p.neither
 
   -- with the next two laws: of any pairs it is an order, in which one of two that differ comes first
-  pub pairs_turned : (a b : Pair) → (compared a b ≡ ComesFirst) ↔ (compared b a ≡ ComesAfter)
+  pub pairs_turned : (a b : Pair) → (compared a b ≡ Less) ↔ (compared b a ≡ Greater)
   pairs_turned = p.turned
 
-  pub pairs_equal : (a b : Pair) → (compared a b ≡ Neither) ↔ ((a.rank ≡ b.rank) × (a.instance ≡ b.instance))
+  pub pairs_equal : (a b : Pair) → (compared a b ≡ Equal) ↔ ((a.rank ≡ b.rank) × (a.instance ≡ b.instance))
   pairs_equal = p.equal
 
-  pub pairs_chain : (a b c : Pair) → compared a b ≡ ComesFirst → compared b c ≡ ComesFirst → compared a c ≡ ComesFirst
+  pub pairs_chain : (a b c : Pair) → compared a b ≡ Less → compared b c ≡ Less → compared a c ≡ Less
   pairs_chain = p.chain
 
   pub pairs_bar : (m : ℕ) (R : ℕ → ℕ → ℕ) (F : ℕ → ℕ) → ((j : ℕ) → 16 ≤ j → F j ≡ 0) → number_of (bar_pair m R F) ≡ bar_of m R F

@@ -5,7 +5,7 @@ use borrow.Author.Tests.{ltb-false, ltb-true}
 use lib.Dec.{ltb}
 use lib.ListN.{length, length-set, set}
 use lib.Seq.{get_or-set_other, get_or-set_same}
-use mathlib.Core.Bool.{false, true}
+use mathlib.Core.Bool.{Bool, false, true}
 use mathlib.Core.List.{List, map}
 use mathlib.Core.Path.{◌∙◌, ◌≡◌, ap, refl, sym}
 use native.Mathlib.Decide.{dec_lt, ℕ_discrete}
@@ -206,3 +206,8 @@ module _ (m : ℕ) (R : ℕ → ℕ → ℕ) (F : ℕ → ℕ) (ord : Ordered m 
     pairs_end cursors out firsts count k inv t =
         merging_end m R F (number_of stop) first cursors out count (number_of k) inv.numbers (ap number_of es ∙ bar-number R F none m)
         (ltb-false (number_of k) (number_of stop) (sym (test_number k inv.own) ∙ t))
+
+-- a block's pair, where the merge goes on
+pub own_pair : {m : ℕ} {R : ℕ → ℕ → ℕ} {F : ℕ → ℕ} {stop k : Pair} {first cursors out : List ℕ} {firsts : List Pair} {count : ℕ} {b : Bool}
+    → Ordered m R F → ((i : ℕ) → 0 < F i → i < 16) → MergingPairs m R F stop first cursors out firsts count k → b ≡ is_first (compared k stop) → b ≡ true → k.instance < 16
+own_pair {m} {R} {F} ord small inv e t = pair-own m R F ord small _ inv.is_bar _ _ _ _ _ _ inv (sym e ∙ t)

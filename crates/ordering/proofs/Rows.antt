@@ -2,42 +2,42 @@
 -- Assumes nothing.
 use mathlib.Core.List.{[], ◌∷◌}
 use mathlib.Core.Path.{◌≡◌, refl}
-use Rattle.ordering.specs.declared.pair.Comparison.TheVariants.{ComesAfter, ComesFirst, Neither}
+use Rattle.std.specs.declared.cmp.Ordering.TheVariants.{Equal, Greater, Less}
 use Rattle.ordering.specs.Pairs.{bar_pair, compared, first_of, pair_of}
 use Rattle.ordering.specs.Table.{count_in, rank_in}
 use Rattle.sums.specs.Fold.{fold_to}
 use Rattle.sums.specs.Test.{pick}
 
 -- "a lower rank comes first, a higher rank comes after", whatever the instances
-pub lower_comes_first : compared (pair_of 1 15) (pair_of 2 0) ≡ ComesFirst
+pub lower_comes_first : compared (pair_of 1 15) (pair_of 2 0) ≡ Less
 unfolding compared pick
 lower_comes_first = refl
 
-pub higher_comes_after : compared (pair_of 2 0) (pair_of 1 15) ≡ ComesAfter
+pub higher_comes_after : compared (pair_of 2 0) (pair_of 1 15) ≡ Greater
 unfolding compared pick
 higher_comes_after = refl
 
 -- "at equal ranks the lower instance comes first"
-pub instance_comes_first : compared (pair_of 4 0) (pair_of 4 1) ≡ ComesFirst
+pub instance_comes_first : compared (pair_of 4 0) (pair_of 4 1) ≡ Less
 unfolding compared pick
 instance_comes_first = refl
 
-pub instance_comes_after : compared (pair_of 4 1) (pair_of 4 0) ≡ ComesAfter
+pub instance_comes_after : compared (pair_of 4 1) (pair_of 4 0) ≡ Greater
 unfolding compared pick
 instance_comes_after = refl
 
 -- "of two equal pairs neither does"
-pub equal_is_neither : compared (pair_of 4 1) (pair_of 4 1) ≡ Neither
+pub equal_is_neither : compared (pair_of 4 1) (pair_of 4 1) ≡ Equal
 unfolding compared pick
 equal_is_neither = refl
 
 -- 2^32, which only the bar's rank can be, is above every rank
-pub highest_comes_first : compared (pair_of 4294967295 15) (pair_of 4294967296 0) ≡ ComesFirst
+pub highest_comes_first : compared (pair_of 4294967295 15) (pair_of 4294967296 0) ≡ Less
 unfolding compared pick
 highest_comes_first = refl
 
 -- with an instance above 15, which no sheet has, the numbers of (0, 16) and (1, 0) are the same, and the answer is still by cases
-pub past-sixteen : compared (pair_of 0 16) (pair_of 1 0) ≡ ComesFirst
+pub past-sixteen : compared (pair_of 0 16) (pair_of 1 0) ≡ Less
 unfolding compared pick
 past-sixteen = refl
 

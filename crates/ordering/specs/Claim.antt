@@ -2,7 +2,7 @@
 -- and what the comparison of pairs gives, by whichever way it is worked: request 06.
 -- Assumes nothing.
 use Rattle.std.specs.Prelude.{◌+◌, ◌<◌, ◌≤◌, ℕ, eqb, length, List, [], ◌∷◌, ◌↔◌, ◌≡◌}
-use Rattle.ordering.specs.declared.pair.Comparison.TheVariants.{ComesAfter, ComesFirst, Neither}
+use Rattle.std.specs.declared.cmp.Ordering.TheVariants.{Equal, Greater, Less}
 use Rattle.ordering.specs.declared.pair.Pair.{Pair}
 use Rattle.ordering.specs.Order.{Ref, bar_of, global_log, key_of, last_of, ref_of}
 use Rattle.ordering.specs.Pairs.{bar_pair, compared, number_of}
@@ -54,12 +54,12 @@ pub record LogRules : Type 0 where
 
 pub record PairRules : Type 0 where
   -- "For ranks up to 2^32 and instances below 16 every answer is shown to be that of the number": here for every rank
-  pub first : (p q : Pair) → p.instance < 16 → q.instance < 16 → (compared p q ≡ ComesFirst) ↔ (number_of p < number_of q)
-  pub after : (p q : Pair) → p.instance < 16 → q.instance < 16 → (compared p q ≡ ComesAfter) ↔ (number_of q < number_of p)
-  pub neither : (p q : Pair) → p.instance < 16 → q.instance < 16 → (compared p q ≡ Neither) ↔ (number_of p ≡ number_of q)
+  pub first : (p q : Pair) → p.instance < 16 → q.instance < 16 → (compared p q ≡ Less) ↔ (number_of p < number_of q)
+  pub after : (p q : Pair) → p.instance < 16 → q.instance < 16 → (compared p q ≡ Greater) ↔ (number_of q < number_of p)
+  pub neither : (p q : Pair) → p.instance < 16 → q.instance < 16 → (compared p q ≡ Equal) ↔ (number_of p ≡ number_of q)
   -- of any two pairs, whatever their instances: turned round the answer is the other one, and only of two equal pairs it is neither; and the order is one
-  pub turned : (p q : Pair) → (compared p q ≡ ComesFirst) ↔ (compared q p ≡ ComesAfter)
-  pub equal : (p q : Pair) → (compared p q ≡ Neither) ↔ ((p.rank ≡ q.rank) × (p.instance ≡ q.instance))
-  pub chain : (p q s : Pair) → compared p q ≡ ComesFirst → compared q s ≡ ComesFirst → compared p s ≡ ComesFirst
+  pub turned : (p q : Pair) → (compared p q ≡ Less) ↔ (compared q p ≡ Greater)
+  pub equal : (p q : Pair) → (compared p q ≡ Equal) ↔ ((p.rank ≡ q.rank) × (p.instance ≡ q.instance))
+  pub chain : (p q s : Pair) → compared p q ≡ Less → compared q s ≡ Less → compared p s ≡ Less
   -- the bar as a pair has the bar's number; a cut has sixteen counts
   pub bar : (m : ℕ) (R : ℕ → ℕ → ℕ) (F : ℕ → ℕ) → ((j : ℕ) → 16 ≤ j → F j ≡ 0) → number_of (bar_pair m R F) ≡ bar_of m R F

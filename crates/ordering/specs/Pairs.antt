@@ -1,8 +1,8 @@
 -- Pairs of a rank and an instance, compared by cases (request 06, after section 4.2 of source document 001), and the bar as a pair.
 -- Assumes nothing.
 use Rattle.std.specs.Prelude.{◌+◌, ℕ, ltb, Bool, false, true}
-use Rattle.ordering.specs.declared.pair.Comparison.{Comparison}
-use Rattle.ordering.specs.declared.pair.Comparison.TheVariants.{ComesAfter, ComesFirst, Neither}
+use Rattle.std.specs.declared.cmp.Ordering.{Ordering}
+use Rattle.std.specs.declared.cmp.Ordering.TheVariants.{Equal, Greater, Less}
 use Rattle.ordering.specs.declared.pair.Pair.{Pair}
 use Rattle.ordering.specs.Order.{key_of, last_of}
 use Rattle.sums.specs.Fold.{fold_to}
@@ -16,17 +16,17 @@ abbrev pub number_of : Pair → ℕ
 number_of p = key_of p.rank p.instance
 
 -- "a lower rank comes first, a higher rank comes after, at equal ranks the lower instance comes first, and of two equal pairs neither does"
-unfoldable pub compared : Pair → Pair → Comparison
+unfoldable pub compared : Pair → Pair → Ordering
 compared p q =
-    pick (ltb p.rank q.rank) ComesFirst
-    (pick (ltb q.rank p.rank) ComesAfter
-    (pick (ltb p.instance q.instance) ComesFirst
-    (pick (ltb q.instance p.instance) ComesAfter Neither)))
+    pick (ltb p.rank q.rank) Less
+    (pick (ltb q.rank p.rank) Greater
+    (pick (ltb p.instance q.instance) Less
+    (pick (ltb q.instance p.instance) Greater Equal)))
 
-abbrev pub is_first : Comparison → Bool
-is_first ComesFirst = true
-is_first ComesAfter = false
-is_first Neither = false
+abbrev pub is_first : Ordering → Bool
+is_first Less = true
+is_first Greater = false
+is_first Equal = false
 
 -- the one of two pairs that comes first
 unfoldable pub first_of : Pair → Pair → Pair

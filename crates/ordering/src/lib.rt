@@ -19,6 +19,9 @@ pub struct Rank(pub u32);
 #[derive(Clone, Copy)]
 pub struct SequenceNumber(pub u16);
 
+// An instance has at most as many blocks, and as many cells in a table of ranks.
+const BLOCKS: u16 = 128;
+
 // Four instances are a group. The merge keeps the first pair of each of the four groups, so that behind a block its own group alone is looked through.
 const GROUP: u16 = 4;
 
@@ -26,20 +29,22 @@ const GROUP: u16 = 4;
 pub fn rank_at(ranks: &[u32], instance: u16, index: u16) -> Rank
     ensures { result.0 ≡ rank_in ranks.now instance index }
 {
-    let at = (instance as usize) * 128 + (index as usize);
-    if at < ranks.len() {
-        Rank(ranks[at])
-    } else {
-        Rank(0)
-    }
+    let at = (instance as usize) * (BLOCKS as usize) + (index as usize);
+    Rank(ranks.get(at).copied().unwrap_or(0))
 }
 
 // The count of an instance, 0 past the sixteenth.
 pub fn count_at(counts: [u16; 16], instance: u16) -> u16
     ensures { result ≡ count_in counts instance }
 {
-    let at = instance as usize;
-    if at < 16 { counts[at] } else { 0 }
+    count_in(&counts, instance)
+}
+
+// The count of an instance, 0 past the end.
+fn count_in(counts: &[u16], instance: u16) -> u16
+    ensures { result ≡ count_in counts.now instance }
+{
+    counts.get(instance as usize).copied().unwrap_or(0)
 }
 
 // What instance j allows: (its last rank + 1, j). Without a block its last rank counts as 0.
@@ -58,20 +63,10 @@ pub fn bar(m: u16, ranks: &[u32], full: [u16; 16]) -> Pair
     ensures { (result ≡ bar_pair m (rank_in ranks.now) (count_in full)) × (result.rank ≤ 4294967296) }
 {
     let mut low = ceiling(ranks, full, 0);
-    let mut j: u16 = 0;
-    while j < m {
+    for j in 0..m {
         low = first_of(low, ceiling(ranks, full, j));
-        j += 1;
     }
     low
-}
-
-// The count of an instance, 0 past the end.
-fn count_in(counts: &[u16], instance: u16) -> u16
-    ensures { result ≡ count_in counts.now instance }
-{
-    let at = instance as usize;
-    if at < counts.len() { counts[at] } else { 0 }
 }
 
 // The pair of the next block of instance j, or the bar.
@@ -86,13 +81,6 @@ fn next_of(ranks: &[u32], full: &[u16], stop: Pair, cursors: &[u16], j: u16) -> 
     }
 }
 
-// The lesser of two numbers.
-fn least(a: u16, b: u16) -> u16
-    ensures { result ≡ min a b }
-{
-    if a < b { a } else { b }
-}
-
 // The first of the next blocks of a group's instances, or the bar. In the last group not all four need be among the first m.
 fn first_in_group(m: u16, ranks: &[u32], full: &[u16], stop: Pair, cursors: &[u16], g: u16) -> Pair
     requires { g < 4 }
@@ -100,11 +88,10 @@ fn first_in_group(m: u16, ranks: &[u32], full: &[u16], stop: Pair, cursors: &[u1
         ≡ group_first stop (next_pair (rank_in ranks.now) (count_in full.now) stop (count_in cursors.now)) m g }
 {
     let mut low = stop;
-    let mut j = g * GROUP;
-    let end = least(j + GROUP, m);
-    while j < end {
+    let start = g * GROUP;
+    let end = m.min(start + GROUP);
+    for j in start..end {
         low = first_of(low, next_of(ranks, full, stop, cursors, j));
-        j += 1;
     }
     low
 }
@@ -126,10 +113,8 @@ fn next_pair(firsts: [Pair; 4], stop: Pair) -> Pair
     ensures { result ≡ first_from stop (pair_in firsts) 4 }
 {
     let mut low = stop;
-    let mut g: usize = 0;
-    while g < 4 {
-        low = first_of(low, firsts[g]);
-        g += 1;
+    for first in firsts {
+        low = first_of(low, first);
     }
     low
 }
@@ -158,7 +143,7 @@ pub fn global_log(m: u16, ranks: &[u32], full: [u16; 16], out: &mut [u16]) -> us
     while comes_first(k, stop) {
         let i = k.instance as u16;
         let n = count_in(&cursors, i);
-        put(out, count, i * 128 + n);
+        put(out, count, i * BLOCKS + n);
         let at = i as usize;
         cursors[at] = n + 1;
         count += 1;
@@ -173,18 +158,16 @@ pub fn global_log(m: u16, ranks: &[u32], full: [u16; 16], out: &mut [u16]) -> us
 fn climbing(ranks: &[u32], instance: u16, count: u16) -> u16
     ensures { result ≡ climb (rank_in ranks.now instance) count }
 {
-    let mut n: u16 = 0;
     let mut last: u32 = 0;
-    while n < count {
+    for n in 0..count {
         let r = rank_at(ranks, instance, n);
         let now = r.0;
         if now <= last {
             return n;
         }
         last = now;
-        n += 1;
     }
-    n
+    count
 }
 
 // The counts as far as the table is one of a ledger: at most 128, and rising from above 0.
@@ -192,11 +175,8 @@ pub fn usable_counts(ranks: &[u32], full: [u16; 16]) -> [u16; 16]
     ensures { count_in result ≡ usable (rank_in ranks.now) (count_in full) }
 {
     let mut counts = [0u16; 16];
-    let mut j: u16 = 0;
-    while j < 16 {
-        let at = j as usize;
-        counts[at] = climbing(ranks, j, least(count_at(full, j), 128));
-        j += 1;
+    for j in 0..16 {
+        counts[j as usize] = climbing(ranks, j, count_at(full, j).min(BLOCKS));
     }
     counts
 }

@@ -3,6 +3,7 @@ ghost use Rattle.std.specs.Prelude.{◌≡◌, ◌+◌};
 ghost use Rattle.ordering.specs.Pairs.{pair_of, compared, is_first, first_of};
 
 use crate::Rank;
+use std::cmp::Ordering;
 
 // The rank and the instance of a block, or those of the bar. The bar's rank is a last rank + 1, so it may be 2^32, which no `Rank` is: hence 64 bits.
 // The instance has as many, so that a pair has no gap and stays in registers.
@@ -11,14 +12,6 @@ use crate::Rank;
 pub struct Pair {
     rank: u64,
     pub instance: u64,
-}
-
-// What is said of the first of two pairs.
-#[derive(Clone, Copy)]
-pub enum Comparison {
-    ComesFirst,
-    ComesAfter,
-    Neither,
 }
 
 // The pair of a block.
@@ -42,33 +35,29 @@ pub fn pair_above(rank: Rank, instance: u16) -> Pair
 }
 
 // A lower rank comes first, a higher rank comes after, at equal ranks the lower instance comes first, and of two equal pairs neither does.
-pub fn compare(a: Pair, b: Pair) -> Comparison
+pub fn compare(a: Pair, b: Pair) -> Ordering
     ensures { result ≡ compared a b }
 {
     if a.rank < b.rank {
-        return Comparison::ComesFirst;
+        return Ordering::Less;
     }
     if b.rank < a.rank {
-        return Comparison::ComesAfter;
+        return Ordering::Greater;
     }
     if a.instance < b.instance {
-        return Comparison::ComesFirst;
+        return Ordering::Less;
     }
     if b.instance < a.instance {
-        return Comparison::ComesAfter;
+        return Ordering::Greater;
     }
-    Comparison::Neither
+    Ordering::Equal
 }
 
 // Whether a comes first of the two.
 pub fn comes_first(a: Pair, b: Pair) -> bool
     ensures { result ≡ is_first (compared a b) }
 {
-    match compare(a, b) {
-        Comparison::ComesFirst => true,
-        Comparison::ComesAfter => false,
-        Comparison::Neither => false,
-    }
+    compare(a, b).is_lt()
 }
 
 // The one of two pairs that comes first.

@@ -1,5 +1,6 @@
 -- A frame and the values that it says are one offer: the same answer, and the same logs afterwards.
 -- Assumes nothing.
+use Rattle.std.proofs.Common.{Ok, Err, None, Some}
 use Prim.Native.Nat.{◌*◌, ◌+◌, ◌<◌, ◌≤◌, ℕ}
 use borrow.Author.Tests.{le-ltb, lt-leb}
 use lib.Dec.{eqb, leb}
@@ -13,13 +14,13 @@ use Rattle.fields.specs.Number.{le}
 use Rattle.frames.proofs.BlockLaws.{block_checked}
 use Rattle.frames.specs.Block.{check_block, cites_of, cut_entry, cut_of}
 use Rattle.frames.specs.Frame.{body_of, frame_at}
-use Rattle.frames.specs.declared.frame.Framed.{Framed}
+use Rattle.frames.specs.Frame.{Framed}
 use Rattle.plain.proofs.AnswerLaws.{refuse_false, then_go}
 use Rattle.plain.specs.Answer.{accepted, no_offer}
 use Rattle.plain.specs.Logs.{Logs, Values, history_of}
 use Rattle.plain.specs.Offers.{block, block_of, frame, parse, parsed_body, parsed_frame, values, values_in, wrong}
 use Rattle.plain.specs.Plain.{answer, front_answer, idle_answer, next, unused_set, values_answer}
-use Rattle.refusals.specs.declared.Checked.{Checked}
+use Rattle.refusals.specs.Refusals.{Checked}
 use Rattle.refusals.specs.declared.Refusal.{Refusal}
 use Rattle.refusals.specs.declared.Refusal.TheVariants.{KindNotDue}
 use Rattle.sheets.specs.Sheet.{Sheet}
@@ -30,20 +31,20 @@ use Rattle.sums.specs.Test.{both}
 never : (r : Refusal) (b : Values) → wrong r ≡ block b → ⊥
 never r b q = let z : ◌≡◌ {A = ℕ} 0 1 = cc in omega arith
 
-by_check : (B : List ℕ) (m : ℕ) (b : Values) (c : Checked) → parsed_body B m c ≡ block b → (values_in B m ≡ b) × (c ≡ Checked.Fine)
-by_check B m b Checked.Fine q = (ap block_of q, refl)
-by_check B m b (Checked.Refused r) q = absurd (never r b q)
+by_check : (B : List ℕ) (m : ℕ) (b : Values) (c : Checked) → parsed_body B m c ≡ block b → (values_in B m ≡ b) × (c ≡ Ok tt)
+by_check B m b (Ok _) q = (ap block_of q, refl)
+by_check B m b (Err r) q = absurd (never r b q)
 
-by_frame : (B : List ℕ) (m at : ℕ) (b : Values) (f : Framed) → parsed_frame m B at f ≡ block b → (values_in B m ≡ b) × (check_block B at m ≡ Checked.Fine)
-by_frame B m at b (Framed.Whole k s n) q = by_check B m b (check_block B at m) (peel (not (eqb k 4)) (never (KindNotDue at) b) q).1
-by_frame B m at b (Framed.Refused r) q = absurd (never r b q)
-by_frame B m at b Framed.End q = absurd (never (KindNotDue at) b q)
+by_frame : (B : List ℕ) (m at : ℕ) (b : Values) (f : Framed) → parsed_frame m B at f ≡ block b → (values_in B m ≡ b) × (check_block B at m ≡ Ok tt)
+by_frame B m at b (Ok (Some span)) q = by_check B m b (check_block B at m) (peel (not (eqb span.kind 4)) (never (KindNotDue at) b) q).1
+by_frame B m at b (Err r) q = absurd (never r b q)
+by_frame B m at b (Ok None) q = absurd (never (KindNotDue at) b q)
 
 module _ (S : Sheet) (bytes : List ℕ) (at : ℕ) (b : Values) (p : parse S bytes at ≡ block b) where
   abbrev B : List ℕ
   B = body_of (frame_at bytes at) bytes
 
-  pub parsed : (values_in B S.m ≡ b) × (check_block B at S.m ≡ Checked.Fine)
+  pub parsed : (values_in B S.m ≡ b) × (check_block B at S.m ≡ Ok tt)
   unfolding parse
   parsed = by_frame B S.m at b (frame_at bytes at) p
 

@@ -1,10 +1,10 @@
 -- An offer for each refusal of document 01's table, in the order of the rules; an offer of the lists `turned`, `frames_turned` and `early_turned` meets the later refusals of its list too, as far as one that meets its own can.
 -- Then offers that meet a refusal by just one, or would give another place. proofs/EdgesRefusals shows the answers.
 -- Assumes nothing.
-use Rattle.std.specs.Prelude.{◌%◌, ◌+◌, ◌/◌, ℕ, length, replicate, set, Bool, false, true, List, [], ◌++◌, ◌∷◌, map, ◌≡◌}
+use Rattle.std.specs.Prelude.{◌%◌, ◌+◌, ◌/◌, ℕ, length, replicate, set, Bool, false, true, List, [], ◌++◌, ◌∷◌, map, ◌≡◌, Ok, Err, None}
 use Rattle.frames.specs.Step.{step_at}
 use Rattle.frames.specs.declared.step.Loading.{Loading}
-use Rattle.frames.specs.declared.step.Step.{Step}
+use Rattle.frames.specs.Step.{Step}
 use Rattle.plain.specs.Answer.{Answer, accepted, no_offer, refused}
 use Rattle.plain.specs.Early.{early_answer}
 use Rattle.plain.specs.Edges.{ent, offers_of, pay, sheet_of, whole_report, whole_sheet}
@@ -245,10 +245,10 @@ so_far stage n = record { m = 3; a = 3; g = 0; t = 3; stage = stage; loaded = n 
 
 abbrev pub endings : List Ending
 endings =
-    record { loading = so_far 0 0; step = Step.Refused (Short 5) }
-    ∷ record { loading = so_far 1 0; step = Step.Refused (Short 5) }
-    ∷ record { loading = so_far 2 2; step = Step.Refused (Short 5) }
-    ∷ record { loading = so_far 2 3; step = Step.End } ∷ []
+    record { loading = so_far 0 0; step = Err (Short 5) }
+    ∷ record { loading = so_far 1 0; step = Err (Short 5) }
+    ∷ record { loading = so_far 2 2; step = Err (Short 5) }
+    ∷ record { loading = so_far 2 3; step = (Ok None) } ∷ []
 
 -- ---- calls for readings, of the run "One reading, whole": 3 with place 0 ahead of 16 before the sheet is complete; then 16, the working buffers before those that are filled
 

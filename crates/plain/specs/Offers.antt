@@ -1,13 +1,13 @@
 -- What is offered to the plain ledger: a block's values or a frame (document 01's slip), with the lengths of the lent buffers.
 -- Assumes nothing.
-use Rattle.std.specs.Prelude.{◌*◌, ◌+◌, ℕ, eqb, not, List, [], ◌∷◌}
+use Rattle.std.specs.Prelude.{◌*◌, ◌+◌, ℕ, eqb, not, List, [], ◌∷◌, Ok, Err, None, Some}
 use Rattle.frames.specs.Frame.{body_of, frame_at}
 use Rattle.plain.specs.Logs.{Values}
 use Rattle.sums.specs.Test.{pick}
-use Rattle.frames.specs.declared.frame.Framed.{Framed}
+use Rattle.frames.specs.Frame.{Framed}
 use Rattle.refusals.specs.declared.Refusal.{Refusal}
 use Rattle.refusals.specs.declared.Refusal.TheVariants.{KindNotDue}
-use Rattle.refusals.specs.declared.Checked.{Checked}
+use Rattle.refusals.specs.Refusals.{Checked}
 use Rattle.sheets.specs.Sheet.{tx_count, Sheet}
 use Rattle.frames.specs.Block.{check_block, cites_of, cut_of}
 use Rattle.fields.specs.Number.{le}
@@ -38,14 +38,14 @@ abbrev pub values_in : List ℕ → ℕ → Values
 values_in b m = record { instance = le 2 b 0; number = le 2 b 2; rank = le 4 b 4; cut = cut_of b m; cites = cites_of b m }
 
 abbrev pub parsed_body : List ℕ → ℕ → Checked → Parsed
-parsed_body b m Checked.Fine = block (values_in b m)
-parsed_body b m (Checked.Refused r) = wrong r
+parsed_body b m (Ok _) = block (values_in b m)
+parsed_body b m (Err r) = wrong r
 
 -- on a complete sheet blocks are due; a frame where no byte is left does not come here (`idle_answer`)
 abbrev pub parsed_frame : ℕ → List ℕ → ℕ → Framed → Parsed
-parsed_frame m b at (Framed.Whole k start end) = pick (not (eqb k 4)) (wrong (KindNotDue at)) (parsed_body b m (check_block b at m))
-parsed_frame m b at (Framed.Refused r) = wrong r
-parsed_frame m b at Framed.End = wrong (KindNotDue at)
+parsed_frame m b at (Ok (Some span)) = pick (not (eqb span.kind 4)) (wrong (KindNotDue at)) (parsed_body b m (check_block b at m))
+parsed_frame m b at (Err r) = wrong r
+parsed_frame m b at (Ok None) = wrong (KindNotDue at)
 
 unfoldable pub parse : Sheet → List ℕ → ℕ → Parsed
 parse S bytes at = parsed_frame S.m (body_of (frame_at bytes at) bytes) at (frame_at bytes at)

@@ -1,5 +1,6 @@
 -- The four calls that settle: what each answers, what its loop asks, and what it leaves.
 -- Assumes nothing.
+use Rattle.std.proofs.Common.{Ok}
 use Prim.Native.Nat.{◌≤◌, ℕ}
 use lib.Dec.{ltb}
 use lib.ListN.{get_or, length}
@@ -20,7 +21,7 @@ use Rattle.settlement.specs.Tables.{Buffers, status_in}
 use Rattle.sheets.proofs.SheetCells.{sheet-a, sheet-count, sheet-g}
 use Rattle.state.specs.State.{Kept, sizes_of}
 use Rattle.sums.specs.Seq.{written}
-use Rattle.refusals.specs.declared.Checked.{Checked}
+use Rattle.refusals.specs.Refusals.{Checked}
 use Rattle.sheets.specs.declared.sheet.Sizes.{Sizes}
 use Rattle.state.specs.declared.ledger.Ledger.{Ledger}
 
@@ -31,7 +32,7 @@ module _ (l : Ledger) (K : Kept) (W : Buffers) (v : Checked) (e : reply_to v ≡
   unfolding settling_answer work_needs fill_needs
   answer-share = answer-none l K W share (report_in l K) (reply_to v) e refl
 
-  pub share_told : v ≡ Checked.Fine → (values : List ℕ) (W' : Buffers) → SettlesFull l K W values W' → (z : Sizes) → z ≡ sizes_of l → (n : ℕ) → n ≡ share_of z.t (status_in z W'.table) → Reads l K W share [] accepted n W' []
+  pub share_told : v ≡ Ok tt → (values : List ℕ) (W' : Buffers) → SettlesFull l K W values W' → (z : Sizes) → z ≡ sizes_of l → (n : ℕ) → n ≡ share_of z.t (status_in z W'.table) → Reads l K W share [] accepted n W' []
   unfolding filled_with lists_of value_of
   share_told t values W' s z ez n en = reads-accepted l K W share [] v t answer-share n (share_is l K W values W' s z ez n en) W' s.beyond [] refl
 
@@ -39,7 +40,7 @@ module _ (l : Ledger) (K : Kept) (W : Buffers) (v : Checked) (e : reply_to v ≡
 
 module _ (l : Ledger) (K : Kept) (W : Buffers) (z : Sizes) (ez : z ≡ sizes_of l) (before v : Checked) (e : reply_to before ≡ settling_answer l K W) (o : List ℕ) where
   -- where a list of n places was long enough, so were the buffers
-  one_passed : (n : ℕ) → reply_to v ≡ (reply_to before then refuse (ltb (length o) n) 16 n) → v ≡ Checked.Fine → (settling_answer l K W ≡ accepted) × (n ≤ length o)
+  one_passed : (n : ℕ) → reply_to v ≡ (reply_to before then refuse (ltb (length o) n) 16 n) → v ≡ Ok tt → (settling_answer l K W ≡ accepted) × (n ≤ length o)
   one_passed n ev t = let p = next_passed (reply_to before) (reply_to v) n (length o) ev (ap reply_to t) in (sym e ∙ p.0, p.1)
 
   module _ (ev : reply_to v ≡ (reply_to before then refuse (ltb (length o) z.g) 16 z.g)) where
@@ -49,7 +50,7 @@ module _ (l : Ledger) (K : Kept) (W : Buffers) (z : Sizes) (ez : z ≡ sizes_of 
         answer-one l K W registers (report_in l K) (reply_to before) e z.g (length o) (reply_to v) ev
         (ap (λ (n : ℕ). n ∷ []) (sheet-g K.sheet (sizes_of l) ∙ ap (λ (y : Sizes). y.g) (sym ez)))
 
-    module _ (t : v ≡ Checked.Fine) where
+    module _ (t : v ≡ Ok tt) where
       -- what the settlement and the loop ask
       pub registers-passed : (settling_answer l K W ≡ accepted) × (z.g ≤ 64) × (z.g ≤ length o)
       registers-passed =
@@ -71,7 +72,7 @@ module _ (l : Ledger) (K : Kept) (W : Buffers) (z : Sizes) (ez : z ≡ sizes_of 
         answer-one l K W settlements (report_in l K) (reply_to before) e z.t (length o) (reply_to v) ev
         (ap (λ (n : ℕ). n ∷ []) (sheet-count K.sheet (sizes_of l) ∙ ap (λ (y : Sizes). y.t) (sym ez)))
 
-    module _ (t : v ≡ Checked.Fine) where
+    module _ (t : v ≡ Ok tt) where
       -- what the settlement and the loop ask
       pub settlements-passed : (settling_answer l K W ≡ accepted) × (z.t ≤ length o)
       settlements-passed = one_passed z.t ev t
@@ -93,7 +94,7 @@ module _ (l : Ledger) (K : Kept) (W : Buffers) (z : Sizes) (ez : z ≡ sizes_of 
       answer-two l K W accounts (report_in l K) (reply_to lent) e z.a (length f) (reply_to before) eb z.a (length h) (reply_to v) ev
       (ap (λ (n : ℕ). n ∷ n ∷ []) (sheet-a K.sheet (sizes_of l) ∙ ap (λ (y : Sizes). y.a) (sym ez)))
 
-  module _ (t : v ≡ Checked.Fine) where
+  module _ (t : v ≡ Ok tt) where
     -- what the settlement and the loop ask
     pub accounts-passed : (settling_answer l K W ≡ accepted) × (z.a ≤ length f) × (z.a ≤ length h)
     accounts-passed =

@@ -1,5 +1,6 @@
 -- The call for the log: what it answers, what its loop asks, and what it leaves.
 -- Assumes nothing.
+use Rattle.std.proofs.Common.{Ok}
 use Prim.Native.Nat.{◌*◌, ◌+◌, ◌≤◌, ℕ}
 use lib.Dec.{ltb}
 use lib.ListN.{get_or, length, take}
@@ -28,7 +29,7 @@ use Rattle.state.specs.State.{Kept, complete, kept, sizes_of}
 use Rattle.sums.proofs.FillLaws.{filled-front, tabulate-front}
 use Rattle.sums.proofs.SeqLaws.{length-fill}
 use Rattle.sums.specs.Seq.{fill, written}
-use Rattle.refusals.specs.declared.Checked.{Checked}
+use Rattle.refusals.specs.Refusals.{Checked}
 use Rattle.state.specs.declared.ledger.Ledger.{Ledger}
 
 -- what is lent beside the two lists
@@ -57,7 +58,7 @@ module _ (l : Ledger) (ranks : List ℕ) where
         (e1 ∙ ap₂ ◌then◌ e (ap (λ (m : ℕ). refuse (ltb (length ranks) (128 * m)) 16 (128 * m)) (sym (sheet-m [] (sizes_of l))) ∙ sym (then_accepted _)))
         n (length i) (reply_to second) e2 n (length k) (reply_to v) e3 (ap (λ (b : List Ref). length b ∷ length b ∷ []) log_is ∙ ap (λ (x : ℕ). x ∷ x ∷ []) (sym en))
 
-    module _ (t : v ≡ Checked.Fine) where
+    module _ (t : v ≡ Ok tt) where
       passed-third : (reply_to second ≡ accepted) × (n ≤ length k)
       passed-third = next_passed (reply_to second) (reply_to v) n (length k) e3 (ap reply_to t)
 

@@ -1,5 +1,6 @@
 -- From the answer to what a call for a reading leaves: a refused call leaves everything as it was, an accepted one fills its lists.
 -- Assumes nothing.
+use Rattle.std.proofs.Common.{Ok, Err}
 use Prim.Native.Nat.{◌≤◌, ℕ}
 use lib.ListN.{get_or, length, take}
 use mathlib.Core.Bool.{false, true}
@@ -11,7 +12,7 @@ use Rattle.escrow.proofs.AmountCells.{free-in, held-in}
 use Rattle.escrow.specs.Amounts.{free, held}
 use Rattle.escrow.specs.Cells.{free_in, held_in}
 use Rattle.escrow.specs.Share.{share_of}
-use Rattle.plain.specs.Answer.{Answer, accepted}
+use Rattle.plain.specs.Answer.{Answer, accepted, refused}
 use Rattle.plain.specs.Report.{Query, filled_with, lists_of, read_answer, report_by, value_of}
 use Rattle.readings.specs.Inner.{SettlesFull, places_in}
 use Rattle.readings.specs.Reading.{Reads, report_in, work_lengths}
@@ -27,7 +28,7 @@ use Rattle.ordering.specs.Table.{count_in}
 use Rattle.sums.proofs.FillLaws.{filled-front, map-tabulate, tabulate-front}
 use Rattle.sums.proofs.TestLaws.{pick-false, pick_true}
 use Rattle.sums.specs.Seq.{fill, tabulate, written}
-use Rattle.refusals.specs.declared.Checked.{Checked}
+use Rattle.refusals.specs.Refusals.{Checked, refusal_number, refusal_place}
 use Rattle.refusals.specs.declared.Refusal.{Refusal}
 use Rattle.sheets.specs.declared.sheet.Sizes.{Sizes}
 use Rattle.state.specs.declared.ledger.Ledger.{Ledger}
@@ -39,14 +40,14 @@ module _ (l : Ledger) (K : Kept) (W : Buffers) (q : Query) (outs : List (List �
   abbrev pub answer_in : Answer
   answer_in = read_answer (complete l) (sheet_of l K) (report_in l K) q (work_lengths q K W ++ map length outs)
 
-  pub reads-refused : (v : Checked) (x : Refusal) → v ≡ Checked.Refused x → reply_to v ≡ answer_in → Reads l K W q outs (reply_to (Checked.Refused x)) 0 W outs
+  pub reads-refused : (v : Checked) (x : Refusal) → v ≡ Err x → reply_to v ≡ answer_in → Reads l K W q outs (refused (refusal_number x) (refusal_place x)) 0 W outs
   reads-refused v x e a = record {
     tells = record { answered = ap reply_to (sym e) ∙ a; value = sym (pick-false false _ _ refl); lists = sym (pick-false false _ _ refl) };
     quiet = λ t. refl;
     beyond = beyond-none (sizes_of l) W;
   }
 
-  pub reads-accepted : (v : Checked) → v ≡ Checked.Fine → reply_to v ≡ answer_in → (n : ℕ) → n ≡ value_of q (report_in l K) → (W' : Buffers) → Beyond (sizes_of l) W W'
+  pub reads-accepted : (v : Checked) → v ≡ Ok tt → reply_to v ≡ answer_in → (n : ℕ) → n ≡ value_of q (report_in l K) → (W' : Buffers) → Beyond (sizes_of l) W W'
       → (outs' : List (List ℕ)) → outs' ≡ filled_with (lists_of q (report_in l K)) outs → Reads l K W q outs accepted n W' outs'
   reads-accepted v e a n en W' b outs' eo = record {
     tells = record { answered = ap reply_to (sym e) ∙ a; value = en ∙ sym (pick_true true _ _ refl); lists = eo ∙ sym (pick_true true _ _ refl) };

@@ -1,7 +1,8 @@
 -- The answer of a call for a reading: refusal 3, then 16 buffer by buffer.
 -- Assumes nothing.
-use Prim.Native.Nat.{◌*◌, ◌+◌, ◌<◌, ◌≤◌, ℕ}
-use borrow.Author.Tests.{eqb-true, le-ltb, lt-ltb, ltb-false}
+use Rattle.std.proofs.Common.{Ok, Err}
+use Prim.Native.Nat.{◌*◌, ◌+◌, ◌≤◌, ℕ}
+use borrow.Author.Tests.{eqb-true, le-ltb, ltb-false}
 use lib.Dec.{ltb}
 use lib.ListN.{drop, length}
 use mathlib.Core.Bool.{Bool, false, not, true}
@@ -21,8 +22,9 @@ use Rattle.settlement.specs.Tables.{Buffers}
 use Rattle.sheets.proofs.SheetCells.{sheet-a, sheet-count, sheet-m}
 use Rattle.state.specs.Lengths.{least_lengths, needs_list}
 use Rattle.state.specs.State.{Kept, complete, sheet_of, sizes_of}
-use Rattle.refusals.specs.declared.Checked.{Checked}
+use Rattle.refusals.specs.Refusals.{Checked}
 use Rattle.refusals.specs.declared.Refusal.{Refusal}
+use Rattle.refusals.specs.declared.Refusal.TheVariants.{BufferShort}
 use Rattle.state.specs.declared.ledger.Ledger.{Ledger}
 use Rattle.state.specs.declared.lengths.Lengths.{Lengths}
 
@@ -60,20 +62,45 @@ bounds l e = header_bounds _ _ _ _ (due_header_ok l.loading 4 (omega arith) (eqb
     yes true q = refl
     yes false q = sym q
 
--- ---- refusal 16 at one more buffer
+-- ---- one check after another, as `?` has it
 
-module _ (before : Checked) (n k : ℕ) where
-  pub next-kept : (x : Refusal) → before ≡ Checked.Refused x → reply_to (Checked.Refused x) ≡ (reply_to before then refuse (ltb k n) 16 n)
-  unfolding ◌then◌
-  next-kept x e = rw e refl
+unfoldable pub both : Checked → Checked → Checked
+both (Ok _) b = b
+both (Err r) b = Err r
 
-  pub next-short : before ≡ Checked.Fine → k < n → refused 16 n ≡ (reply_to before then refuse (ltb k n) 16 n)
-  unfolding ◌then◌
-  next-short e h = rw e (sym (refuse_true _ 16 n (lt-ltb k n h)))
+pub both_said : {x : Answer} (a b : Checked) → reply_to b ≡ x → reply_to (both a b) ≡ (reply_to a then x)
+unfolding both ◌then◌
+both_said (Ok _) b e = e
+both_said (Err r) b e = refl
 
-  pub next_fine : before ≡ Checked.Fine → n ≤ k → accepted ≡ (reply_to before then refuse (ltb k n) 16 n)
-  unfolding ◌then◌
-  next_fine e h = rw e (sym (refuse_false _ 16 n (le-ltb k n h)))
+pub both_first : {a : Checked} {r : Refusal} (b : Checked) → a ≡ Err r → both a b ≡ Err r
+unfolding both
+both_first b e = rw e refl
+
+module _ {a b : Checked} where
+  pub both_pass : a ≡ Ok tt → b ≡ Ok tt → both a b ≡ Ok tt
+  unfolding both
+  both_pass e f = rw e f
+
+  pub both_second : {r : Refusal} → a ≡ Ok tt → b ≡ Err r → both a b ≡ Err r
+  unfolding both
+  both_second e f = rw e f
+
+-- a check that was not come to
+unfoldable room_by : ℕ → Bool → Checked
+room_by n true = Err (BufferShort n)
+room_by n false = Ok tt
+
+pub unmade : ℕ → ℕ → Checked
+unmade n k = room_by n (ltb k n)
+
+pub unmade_said : (n k : ℕ) → reply_to (unmade n k) ≡ refuse (ltb k n) 16 n
+unfolding room_by refuse unmade
+unmade_said n k = by_test (ltb k n)
+  where
+    by_test : (t : Bool) → reply_to (room_by n t) ≡ refuse t 16 n
+    by_test true = refl
+    by_test false = refl
 
 -- where it passed, so did all before, and the buffer is long enough
 pub next_passed : (a b : Answer) (n k : ℕ) → b ≡ (a then refuse (ltb k n) 16 n) → b ≡ accepted → (a ≡ accepted) × (n ≤ k)

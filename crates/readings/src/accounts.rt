@@ -9,12 +9,13 @@ ghost use Rattle.state.specs.State.{kept};
 ghost use Rattle.sums.specs.Seq.{written};
 
 use crate::full::full_view;
-use crate::room::{check_buffers, check_next};
+use crate::room::check_buffers;
 use crate::settled::settle_full;
 use escrow::amounts::{free_of, held_of};
-use refusals::Checked;
+use refusals::Refusal;
 use sheets::sheet::Sizes;
 use state::ledger::{Ledger, sizes};
+use state::lengths::check_room;
 
 // Writes the amounts in a view, account by account, by the statuses that stand in the table.
 fn fill_accounts(
@@ -53,7 +54,7 @@ pub fn accounts(
     order: &mut [u16],
     free: &mut [u64],
     held: &mut [u64],
-) -> Checked
+) -> Result<(), Refusal>
     ensures { Reads ledger
         (kept sheet.now ranks.now [] cites.now good.now)
         (buffers counts.old table.old order.old)
@@ -66,14 +67,11 @@ pub fn accounts(
 {
     let z = sizes(ledger);
     let a = z.a as usize;
-    let lent = check_buffers(ledger, sheet, ranks, cites, good, counts, table, order);
-    match check_next(check_next(lent, a, free.len()), a, held.len()) {
-        Checked::Refused(r) => Checked::Refused(r),
-        Checked::Fine => {
-            let _registers = settle_full(ledger, sheet, ranks, cites, good, counts, table, order);
-            let view = full_view(ledger, ranks);
-            fill_accounts(sheet, cites, good, z, view, table, free, held);
-            Checked::Fine
-        }
-    }
+    check_buffers(ledger, sheet, ranks, cites, good, counts, table, order)?;
+    check_room(a, free.len())?;
+    check_room(a, held.len())?;
+    let _registers = settle_full(ledger, sheet, ranks, cites, good, counts, table, order);
+    let view = full_view(ledger, ranks);
+    fill_accounts(sheet, cites, good, z, view, table, free, held);
+    Ok(())
 }

@@ -10,4 +10,3 @@ mod room;
 mod settled;
 pub mod settlements;
 pub mod share;
-pub mod told;

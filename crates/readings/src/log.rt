@@ -1,5 +1,6 @@
 // The global log of the full view.
 ghost use Rattle.std.specs.Prelude.{◌+◌, ◌≤◌, get_or, length, [], ◌∷◌, ◌≡◌};
+ghost use Rattle.std.specs.Result.{result_unwrap_or};
 ghost use Rattle.admission.specs.Replies.{reply_to};
 ghost use Rattle.ordering.specs.Table.{ref_in};
 ghost use Rattle.plain.specs.Report as report;
@@ -8,11 +9,11 @@ ghost use Rattle.settlement.specs.Tables.{buffers};
 ghost use Rattle.state.specs.State.{kept};
 ghost use Rattle.sums.specs.Seq.{written};
 
-use crate::room::{check_complete, check_next};
-use crate::told::Told;
+use crate::room::check_complete;
 use ordering::view_log;
-use refusals::Checked;
+use refusals::Refusal;
 use state::ledger::Ledger;
+use state::lengths::check_room;
 
 // Writes the first n blocks of an order, each as its instance and its sequence number.
 fn fill_log(order: &[u16], n: usize, instances: &mut [u16], numbers: &mut [u16])
@@ -29,14 +30,19 @@ fn fill_log(order: &[u16], n: usize, instances: &mut [u16], numbers: &mut [u16])
 
 // Fills `instances` and `numbers` in log order, and tells how many blocks the log has.
 // 16 instances of 128 blocks are the most that a sheet allows: the log is written aside first, since its length decides about refusal 16.
-pub fn log(ledger: Ledger, ranks: &[u32], instances: &mut [u16], numbers: &mut [u16]) -> Told
+pub fn log(
+    ledger: Ledger,
+    ranks: &[u32],
+    instances: &mut [u16],
+    numbers: &mut [u16],
+) -> Result<u32, Refusal>
     ensures { Reads ledger
         (kept [] ranks.now [] [] [])
         (buffers [] [] [])
         report.log
         (instances.old ∷ numbers.old ∷ [])
-        (reply_to result.answer)
-        result.value
+        (reply_to result)
+        (result_unwrap_or result 0)
         (buffers [] [] [])
         (instances.new ∷ numbers.new ∷ []) }
 {
@@ -44,22 +50,10 @@ pub fn log(ledger: Ledger, ranks: &[u32], instances: &mut [u16], numbers: &mut [
     let heights = ledger.heights;
     let mut order = [0u16; 2048];
     let n = view_log(loading.m, ranks, heights, &mut order);
-    let lent = check_next(
-        check_complete(ledger),
-        128 * (loading.m as usize),
-        ranks.len(),
-    );
-    match check_next(check_next(lent, n, instances.len()), n, numbers.len()) {
-        Checked::Refused(r) => Told {
-            answer: Checked::Refused(r),
-            value: 0,
-        },
-        Checked::Fine => {
-            fill_log(&order, n, instances, numbers);
-            Told {
-                answer: Checked::Fine,
-                value: n as u32,
-            }
-        }
-    }
+    check_complete(ledger)?;
+    check_room(128 * (loading.m as usize), ranks.len())?;
+    check_room(n, instances.len())?;
+    check_room(n, numbers.len())?;
+    fill_log(&order, n, instances, numbers);
+    Ok(n as u32)
 }

@@ -7,10 +7,11 @@ ghost use Rattle.settlement.specs.Tables.{buffers};
 ghost use Rattle.state.specs.State.{kept};
 ghost use Rattle.sums.specs.Seq.{written};
 
-use crate::room::{check_buffers, check_next};
+use crate::room::check_buffers;
 use crate::settled::settle_full;
-use refusals::Checked;
+use refusals::Refusal;
 use state::ledger::{Ledger, sizes};
+use state::lengths::check_room;
 
 // Writes the first g of the values.
 fn fill_registers(values: [u32; 64], g: u16, registers: &mut [u32])
@@ -34,7 +35,7 @@ pub fn registers(
     table: &mut [u8],
     order: &mut [u16],
     registers: &mut [u32],
-) -> Checked
+) -> Result<(), Refusal>
     ensures { Reads ledger
         (kept sheet.now ranks.now [] cites.now good.now)
         (buffers counts.old table.old order.old)
@@ -46,13 +47,9 @@ pub fn registers(
         (registers.new ∷ []) }
 {
     let z = sizes(ledger);
-    let lent = check_buffers(ledger, sheet, ranks, cites, good, counts, table, order);
-    match check_next(lent, z.g as usize, registers.len()) {
-        Checked::Refused(r) => Checked::Refused(r),
-        Checked::Fine => {
-            let values = settle_full(ledger, sheet, ranks, cites, good, counts, table, order);
-            fill_registers(values, z.g, registers);
-            Checked::Fine
-        }
-    }
+    check_buffers(ledger, sheet, ranks, cites, good, counts, table, order)?;
+    check_room(z.g as usize, registers.len())?;
+    let values = settle_full(ledger, sheet, ranks, cites, good, counts, table, order);
+    fill_registers(values, z.g, registers);
+    Ok(())
 }

@@ -6,33 +6,18 @@ ghost use Rattle.readings.specs.Inner.{settling_answer};
 ghost use Rattle.settlement.specs.Tables.{buffers};
 ghost use Rattle.state.specs.State.{complete, kept};
 
-use refusals::{Checked, Refusal};
+use refusals::Refusal;
 use state::ledger::{Ledger, is_complete};
 use state::lengths::{Lengths, check_lengths, least_lengths};
 
 // Refusal 3, with place 0.
-pub fn check_complete(ledger: Ledger) -> Checked
+pub fn check_complete(ledger: Ledger) -> Result<(), Refusal>
     ensures { reply_to result ≡ refuse (not (complete ledger)) 3 0 }
 {
     if is_complete(ledger) {
-        Checked::Fine
+        Ok(())
     } else {
-        Checked::Refused(Refusal::KindNotDue(0))
-    }
-}
-
-// Refusal 16 at one more buffer, where nothing was refused before it.
-pub fn check_next(before: Checked, least: usize, lent: usize) -> Checked
-    ensures { reply_to result ≡ (reply_to before then refuse (ltb lent least) 16 least) }
-{
-    match before {
-        Checked::Refused(r) => Checked::Refused(r),
-        Checked::Fine => {
-            if lent < least {
-                return Checked::Refused(Refusal::BufferShort(least));
-            }
-            Checked::Fine
-        }
+        Err(Refusal::KindNotDue(0))
     }
 }
 
@@ -47,14 +32,14 @@ pub fn check_buffers(
     counts: &[u32],
     table: &[u8],
     order: &[u16],
-) -> Checked
+) -> Result<(), Refusal>
     ensures { reply_to result
         ≡ settling_answer ledger
         (kept sheet.now ranks.now [] cites.now good.now)
         (buffers counts.now table.now order.now) }
 {
     if !is_complete(ledger) {
-        return Checked::Refused(Refusal::KindNotDue(0));
+        return Err(Refusal::KindNotDue(0));
     }
     let least = least_lengths(ledger);
     let lent = Lengths {

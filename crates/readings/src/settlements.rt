@@ -7,11 +7,12 @@ ghost use Rattle.settlement.specs.Tables.{buffers};
 ghost use Rattle.state.specs.State.{kept};
 ghost use Rattle.sums.specs.Seq.{written};
 
-use crate::room::{check_buffers, check_next};
+use crate::room::check_buffers;
 use crate::settled::settle_full;
 use fields::byte_at;
-use refusals::Checked;
+use refusals::Refusal;
 use state::ledger::{Ledger, sizes};
+use state::lengths::check_room;
 
 // Writes the first t statuses of the table.
 fn fill_statuses(table: &[u8], t: u16, statuses: &mut [u8])
@@ -35,7 +36,7 @@ pub fn settlements(
     table: &mut [u8],
     order: &mut [u16],
     statuses: &mut [u8],
-) -> Checked
+) -> Result<(), Refusal>
     ensures { Reads ledger
         (kept sheet.now ranks.now [] cites.now good.now)
         (buffers counts.old table.old order.old)
@@ -47,13 +48,9 @@ pub fn settlements(
         (statuses.new ∷ []) }
 {
     let z = sizes(ledger);
-    let lent = check_buffers(ledger, sheet, ranks, cites, good, counts, table, order);
-    match check_next(lent, z.t as usize, statuses.len()) {
-        Checked::Refused(r) => Checked::Refused(r),
-        Checked::Fine => {
-            let _registers = settle_full(ledger, sheet, ranks, cites, good, counts, table, order);
-            fill_statuses(table, z.t, statuses);
-            Checked::Fine
-        }
-    }
+    check_buffers(ledger, sheet, ranks, cites, good, counts, table, order)?;
+    check_room(z.t as usize, statuses.len())?;
+    let _registers = settle_full(ledger, sheet, ranks, cites, good, counts, table, order);
+    fill_statuses(table, z.t, statuses);
+    Ok(())
 }

@@ -1,5 +1,6 @@
 // The share of settled transactions.
 ghost use Rattle.std.specs.Prelude.{[]};
+ghost use Rattle.std.specs.Result.{result_unwrap_or};
 ghost use Rattle.admission.specs.Replies.{reply_to};
 ghost use Rattle.plain.specs.Report as report;
 ghost use Rattle.readings.specs.Reading.{Reads};
@@ -8,9 +9,8 @@ ghost use Rattle.state.specs.State.{kept};
 
 use crate::room::check_buffers;
 use crate::settled::settle_full;
-use crate::told::Told;
 use escrow::share::share_of;
-use refusals::Checked;
+use refusals::Refusal;
 use state::ledger::{Ledger, sizes};
 
 // Tells it in thousandths, to the nearest and a tie to the even figure; 1000 where there is no transaction.
@@ -23,27 +23,17 @@ pub fn share(
     counts: &mut [u32],
     table: &mut [u8],
     order: &mut [u16],
-) -> Told
+) -> Result<u32, Refusal>
     ensures { Reads ledger
         (kept sheet.now ranks.now [] cites.now good.now)
         (buffers counts.old table.old order.old)
         report.share []
-        (reply_to result.answer)
-        result.value
+        (reply_to result)
+        (result_unwrap_or result 0)
         (buffers counts.new table.new order.new)
         [] }
 {
-    match check_buffers(ledger, sheet, ranks, cites, good, counts, table, order) {
-        Checked::Refused(r) => Told {
-            answer: Checked::Refused(r),
-            value: 0,
-        },
-        Checked::Fine => {
-            let _registers = settle_full(ledger, sheet, ranks, cites, good, counts, table, order);
-            Told {
-                answer: Checked::Fine,
-                value: share_of(table, sizes(ledger)),
-            }
-        }
-    }
+    check_buffers(ledger, sheet, ranks, cites, good, counts, table, order)?;
+    let _registers = settle_full(ledger, sheet, ranks, cites, good, counts, table, order);
+    Ok(share_of(table, sizes(ledger)))
 }

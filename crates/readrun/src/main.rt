@@ -5,20 +5,21 @@
 
 mod input;
 mod output;
-mod progress;
 
 use fields::front;
 use input::read_input;
-use output::{Written, write_output};
+use output::write_output;
 use report::report::report_run;
+use std::io;
+use std::io::ErrorKind;
 use std::process::ExitCode;
 
 // The status that a shell gives a program which the signal for a pipe that nobody reads has ended. The system ends no program of
 // Rattle's so: the write fails, and the program ends with this status.
 const UNREAD: u8 = 141;
 
-// Whether the reading was written, all of it.
-fn write_reading(rt: &HostRuntime, run: &[u8]) -> Written {
+// Writes the reading, all of it.
+fn write_reading(rt: &HostRuntime, run: &[u8]) -> io::Result<()> {
     let mut sheet = [0u8; 110592];
     let mut ranks = [0u32; 2048];
     let mut cuts = [0u16; 32768];
@@ -40,7 +41,7 @@ fn write_reading(rt: &HostRuntime, run: &[u8]) -> Written {
         &mut order,
         &mut out,
     );
-    write_output(rt, &mut rt.stdout(), front(&out, done.length))
+    write_output(rt, &mut rt.stdout(), front(&out, done.unwrap_or(0)))
 }
 
 // Where standard error cannot be written either, nobody is told.
@@ -51,16 +52,14 @@ fn say(rt: &impl Eprint, what: &str) {
 // One byte more than a run may have: where it is there the run is long, whatever follows.
 fn main(rt: HostRuntime) -> ExitCode {
     let mut space = [0u8; 65537];
-    let input = read_input(&mut rt.stdin(), &mut space);
-    if !input.whole {
+    let Some(n) = read_input(&mut rt.stdin(), &mut space) else {
         say(&rt, "the run could not be read");
         return ExitCode::SUCCESS;
-    }
-    let n = input.length;
+    };
     match write_reading(&rt, front(&space, n)) {
-        Written::Whole => ExitCode::SUCCESS,
-        Written::Unread => ExitCode::from(UNREAD),
-        Written::Failed => {
+        Ok(()) => ExitCode::SUCCESS,
+        Err(e) if e.kind() == ErrorKind::BrokenPipe => ExitCode::from(UNREAD),
+        Err(_) => {
             say(&rt, "the reading could not be written");
             ExitCode::SUCCESS
         }

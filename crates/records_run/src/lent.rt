@@ -10,7 +10,7 @@ use account_records::{Account, account_records};
 use state::ledger::Ledger;
 
 // An amount that no account has.
-const BLANK: u64 = 18446744073709551615;
+const BLANK: u64 = u64::MAX;
 
 // As many records as a sheet may have accounts, each as no account has it.
 fn blank() -> [Account; 1024]
@@ -50,7 +50,7 @@ pub fn records_of(
         result }
 {
     let mut records = blank();
-    account_records(
+    let _ = account_records(
         ledger,
         sheet,
         ranks,

@@ -3,76 +3,37 @@
 
 #![tactic(auto)]
 
-ghost use Rattle.std.specs.Prelude.{◌≤◌};
-
 use crate::input::read_full;
 use crate::lent::{is_blank, records_of};
 use crate::reading::{offer_blocks, open_sheet};
 use account_records::Account;
 use fields::front;
-use refusals::{Checked, Refusal, number, place};
+use refusals::{Refusal, number, place};
 use state::ledger::{Ledger, sizes};
 
 mod input;
 mod lent;
 mod reading;
 
-// A write that fails is let go, here and below, and the next one is made.
-fn print_text(rt: &impl Print, text: &str) {
-    let _ = rt.print(text);
-}
-
-fn print_field(rt: &impl Print, n: u64) {
-    print_text(rt, " ");
-    let _ = rt.print(n);
-}
-
-// As document 01 prints it.
+// As document 01 prints it. A write that fails is let go, here and below, and the next one is made.
 fn print_refusal(rt: &impl Print, r: Refusal) {
-    print_text(rt, "refused");
-    print_field(rt, number(r) as u64);
-    print_field(rt, place(r) as u64);
-    print_text(rt, "\n");
+    let _ = println!(rt; "refused {} {}", number(r), place(r));
 }
 
-fn print_account(rt: &impl Print, k: u64, r: Account) {
-    print_text(rt, "account");
-    print_field(rt, k);
-    print_field(rt, r.free);
-    print_field(rt, r.held);
-    print_text(rt, "\n");
-}
-
-fn print_accounts(rt: &impl Print, records: [Account; 1024], a: u16) {
-    let mut k = 0u16;
-    while k < 1024 && k < a {
-        print_account(rt, k as u64, records[k as usize]);
-        k += 1;
+fn print_accounts(rt: &impl Print, records: &[Account], a: usize) {
+    for (k, r) in records.iter().take(a).enumerate() {
+        let _ = println!(rt; "account {k} {} {}", r.free, r.held);
     }
-}
-
-fn one_if(b: bool) -> u64
-    ensures { result ≤ 1 }
-{
-    if b { 1 } else { 0 }
 }
 
 // How many of the places from a on are as they were.
-fn kept(records: [Account; 1024], a: u16) -> u64 {
-    let mut n = 0u64;
-    let mut k = a;
-    while k < 1024 {
-        n += one_if(is_blank(records[k as usize]));
-        k += 1;
-    }
-    n
+fn kept(records: &[Account], a: usize) -> usize {
+    records.iter().skip(a).filter(|r| is_blank(**r)).count()
 }
 
-fn print_records(rt: &impl Print, records: [Account; 1024], a: u16) {
+fn print_records(rt: &impl Print, records: &[Account], a: usize) {
     print_accounts(rt, records, a);
-    print_text(rt, "kept");
-    print_field(rt, kept(records, a));
-    print_text(rt, "\n");
+    let _ = println!(rt; "kept {}", kept(records, a));
 }
 
 fn print_reading(
@@ -101,7 +62,7 @@ fn print_reading(
         &mut held,
     );
     let z = sizes(ledger);
-    print_records(rt, records, z.a);
+    print_records(rt, &records, z.a as usize);
 }
 
 fn print_run(rt: &impl Print, run: &[u8]) {
@@ -129,8 +90,8 @@ fn print_run(rt: &impl Print, run: &[u8]) {
     let answer = reached.answer;
     let ledger = reached.ledger;
     match answer {
-        Checked::Refused(r) => print_refusal(rt, r),
-        Checked::Fine => print_reading(rt, ledger, &sheet, &ranks, &cites, &good),
+        Err(r) => print_refusal(rt, r),
+        Ok(()) => print_reading(rt, ledger, &sheet, &ranks, &cites, &good),
     }
 }
 
@@ -138,7 +99,7 @@ fn main(rt: HostRuntime) {
     let mut space = [0u8; 65537];
     let n = read_full(&mut rt.stdin(), &mut space);
     if n > 65536 {
-        print_text(&rt, "long\n");
+        let _ = println!(&rt; "long");
         return;
     }
     print_run(&rt, front(&space, n));

@@ -1,10 +1,10 @@
 // A run read by the library's own calls: its sheet frame by frame, then its blocks, one offer after the other.
-use frames::frame::{Framed, frame};
+use frames::frame::{Span, frame};
 use offers::answer::Answer;
 use offers::offer::offer_frame;
-use refusals::{Checked, Refusal, number};
+use refusals::{Refusal, number};
 use state::ledger::{Ledger, fresh, is_complete};
-use state::load::{Taken, load_sheet};
+use state::load::load_sheet;
 
 // A proved loop has to end. Each call takes a frame of six bytes or more, and a run has at most 65,536.
 const CALLS: u32 = 65536;
@@ -12,16 +12,9 @@ const CALLS: u32 = 65536;
 // How far a run has been read; a refusal has ended the reading.
 #[derive(Clone, Copy)]
 pub struct Reached {
-    pub answer: Checked,
+    pub answer: Result<(), Refusal>,
     pub ledger: Ledger,
     pub at: usize,
-}
-
-fn is_fine(answer: Checked) -> bool {
-    match answer {
-        Checked::Fine => true,
-        Checked::Refused(_) => false,
-    }
 }
 
 // The next frame of the sheet. Refusal 1 where no byte is left.
@@ -32,18 +25,18 @@ fn load_next(before: Reached, run: &[u8], sheet: &mut [u8]) -> Reached {
     let answer = loaded.answer;
     let next = loaded.ledger;
     match answer {
-        Taken::Next(end) => Reached {
-            answer: Checked::Fine,
+        Ok(Some(end)) => Reached {
+            answer: Ok(()),
             ledger: next,
             at: end,
         },
-        Taken::Refused(r) => Reached {
-            answer: Checked::Refused(r),
+        Err(r) => Reached {
+            answer: Err(r),
             ledger: next,
             at,
         },
-        Taken::Complete => Reached {
-            answer: Checked::Refused(Refusal::Short(at)),
+        Ok(None) => Reached {
+            answer: Err(Refusal::Short(at)),
             ledger: next,
             at,
         },
@@ -53,48 +46,45 @@ fn load_next(before: Reached, run: &[u8], sheet: &mut [u8]) -> Reached {
 fn is_loading(reached: Reached) -> bool {
     let answer = reached.answer;
     let ledger = reached.ledger;
-    is_fine(answer) && !is_complete(ledger)
+    answer.is_ok() && !is_complete(ledger)
 }
 
 // The sheet, up to the first block.
 pub fn open_sheet(run: &[u8], sheet: &mut [u8]) -> Reached {
     let mut reached = Reached {
-        answer: Checked::Fine,
+        answer: Ok(()),
         ledger: fresh(),
         at: 0,
     };
-    let mut calls = CALLS;
-    while calls > 0 && is_loading(reached) {
+    for _ in 0..CALLS {
+        if !is_loading(reached) {
+            break;
+        }
         reached = load_next(reached, run, sheet);
-        calls -= 1;
     }
     reached
 }
 
 // Refusals 1 to 7 end the reading; after any other the next block follows.
-fn ending(answer: Answer) -> Checked {
+fn ending(answer: Answer) -> Result<(), Refusal> {
     match answer {
-        Answer::Accepted => Checked::Fine,
+        Answer::Accepted => Ok(()),
         Answer::Refused(r) => {
             if number(r) <= 7 {
-                return Checked::Refused(r);
+                return Err(r);
             }
-            Checked::Fine
+            Ok(())
         }
-        Answer::NoByte => Checked::Fine,
+        Answer::NoByte => Ok(()),
     }
 }
 
 // Where the next frame begins.
 fn after(run: &[u8], at: usize) -> usize {
     match frame(run, at) {
-        Framed::Whole {
-            kind: _,
-            start: _,
-            end,
-        } => end,
-        Framed::Refused(_) => at,
-        Framed::End => at,
+        Ok(Some(Span { end, .. })) => end,
+        Err(_) => at,
+        Ok(None) => at,
     }
 }
 
@@ -127,7 +117,7 @@ fn offer_next(
 
 fn is_offering(reached: Reached, n: usize) -> bool {
     let answer = reached.answer;
-    is_fine(answer) && reached.at < n
+    answer.is_ok() && reached.at < n
 }
 
 // All blocks, to the run's end.
@@ -144,12 +134,13 @@ pub fn offer_blocks(
     run: &[u8],
 ) -> Reached {
     let mut reached = opened;
-    let mut calls = CALLS;
-    while calls > 0 && is_offering(reached, run.len()) {
+    for _ in 0..CALLS {
+        if !is_offering(reached, run.len()) {
+            break;
+        }
         reached = offer_next(
             reached, sheet, ranks, cuts, cites, good, counts, table, order, run,
         );
-        calls -= 1;
     }
     reached
 }

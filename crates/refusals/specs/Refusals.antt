@@ -1,6 +1,6 @@
 -- "a definition gives this paper's number and values for each case of the enum": the table of document 01, "What the caller gets when a slip or block is turned away".
 -- Assumes nothing.
-use Rattle.std.specs.Prelude.{ℕ}
+use Rattle.std.specs.Prelude.{ℕ, Result}
 use Rattle.refusals.specs.declared.Refusal.{Refusal}
 use Rattle.refusals.specs.declared.Refusal.TheVariants.{AccountTwice, BadLength, BodyLength, BufferShort, CitedBefore, EntryAhead, EntryBack, KindNotDue, LogFull, NoInstance, NoPart, NoTransaction, NotNumberDue, OutOfRange, RankNotAbove, Short, SumsDiffer}
 
@@ -43,3 +43,7 @@ refusal_place (NoPart k) = k
 refusal_place (CitedBefore k) = k
 refusal_place (BufferShort least) = least
 refusal_place LogFull = 0
+
+-- what a check of values or bytes says: that they are fine, or the refusal
+abbrev pub Checked : Type 0
+Checked = Result Unit Refusal

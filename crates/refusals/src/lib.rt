@@ -6,7 +6,7 @@
 ghost use Rattle.std.specs.Prelude.{◌≡◌};
 ghost use Rattle.refusals.specs.Refusals.{refusal_number, refusal_place};
 
-#[derive(Clone, Copy)]
+#[derive(Clone, Copy, Debug, PartialEq, Eq)]
 pub enum Refusal {
     // 1 to 7: the frame's offset
     Short(usize),
@@ -33,13 +33,6 @@ pub enum Refusal {
     BufferShort(usize),
     // 17
     LogFull,
-}
-
-// What a check of values or bytes says.
-#[derive(Clone, Copy)]
-pub enum Checked {
-    Fine,
-    Refused(Refusal),
 }
 
 // The number that document 01 gives the refusal.
@@ -72,22 +65,18 @@ pub fn place(r: Refusal) -> usize
     ensures { result ≡ refusal_place r }
 {
     match r {
-        Refusal::Short(at) => at,
-        Refusal::BadLength(at) => at,
-        Refusal::KindNotDue(at) => at,
-        Refusal::BodyLength(at) => at,
-        Refusal::OutOfRange(at) => at,
-        Refusal::AccountTwice(at) => at,
-        Refusal::SumsDiffer(at) => at,
-        Refusal::NoInstance => 0,
+        Refusal::Short(at)
+        | Refusal::BadLength(at)
+        | Refusal::KindNotDue(at)
+        | Refusal::BodyLength(at)
+        | Refusal::OutOfRange(at)
+        | Refusal::AccountTwice(at)
+        | Refusal::SumsDiffer(at) => at,
         Refusal::NotNumberDue(due) => due as usize,
         Refusal::RankNotAbove(last) => last as usize,
-        Refusal::EntryBack(entry) => entry,
-        Refusal::EntryAhead(entry) => entry,
-        Refusal::NoTransaction(k) => k,
-        Refusal::NoPart(k) => k,
-        Refusal::CitedBefore(k) => k,
+        Refusal::EntryBack(entry) | Refusal::EntryAhead(entry) => entry,
+        Refusal::NoTransaction(k) | Refusal::NoPart(k) | Refusal::CitedBefore(k) => k,
         Refusal::BufferShort(least) => least,
-        Refusal::LogFull => 0,
+        Refusal::NoInstance | Refusal::LogFull => 0,
     }
 }

@@ -1,5 +1,6 @@
 -- The course of the blocks is the text that the rest of the run says, where the sheet is complete and the buffers suffice.
 -- Assumes nothing.
+use Rattle.std.proofs.Common.{Ok, Err, None, Some}
 use Prim.Native.Nat.{◌+◌, ◌<◌, ◌≤◌, suc, zero, ℕ}
 use borrow.Author.Tests.{le-leb, lt-leb}
 use lib.Dec.{leb, ltb}
@@ -18,8 +19,8 @@ use Rattle.demand.specs.Claim.{logs_of}
 use Rattle.escrow.specs.Outcome.{History}
 use Rattle.fields.specs.Number.{le}
 use Rattle.frames.proofs.FrameLaws.{frame_is}
-use Rattle.frames.specs.Frame.{body_at, frame_at}
-use Rattle.frames.specs.declared.frame.Framed.{Framed}
+use Rattle.frames.specs.Frame.{body_at, frame_at, whole_frame}
+use Rattle.frames.specs.Frame.{Framed}
 use Rattle.offers.specs.Offering.{answer_from}
 use Rattle.plain.proofs.AnswerLaws.{then_pass}
 use Rattle.plain.proofs.FrameOffers.{parsed}
@@ -51,8 +52,8 @@ use Rattle.text.specs.Wrote.{Wrote}
 
 -- a frame is refused by 1 or 2
 low_number : (t u v w x : Bool) (at k start end : ℕ) (r : Refusal)
-    → pick t Framed.End (pick u (Framed.Refused (Short at)) (pick v (Framed.Refused (BadLength at)) (pick w (Framed.Refused (BadLength at))
-    (pick x (Framed.Refused (Short at)) (Framed.Whole k start end))))) ≡ Framed.Refused r
+    → pick t (Ok None) (pick u (Err (Short at)) (pick v (Err (BadLength at)) (pick w (Err (BadLength at))
+    (pick x (Err (Short at)) (whole_frame k start end))))) ≡ Err r
     → leb (refusal_number r) 7 ≡ true
 unfolding pick
 low_number true u v w x at k start end r e = absurd (let z : ◌≡◌ {A = ℕ} 0 1 = cc in omega arith)
@@ -62,7 +63,7 @@ low_number false false false true x at k start end r e = let z : r ≡ BadLength
 low_number false false false false true at k start end r e = let z : r ≡ Short at = cc in rw z refl
 low_number false false false false false at k start end r e = absurd (let z : ◌≡◌ {A = ℕ} 0 1 = cc in omega arith)
 
-frame_low : (run : List ℕ) (at : ℕ) (r : Refusal) → frame_at run at ≡ Framed.Refused r → leb (refusal_number r) 7 ≡ true
+frame_low : (run : List ℕ) (at : ℕ) (r : Refusal) → frame_at run at ≡ Err r → leb (refusal_number r) 7 ≡ true
 unfolding frame_at
 frame_low run at r e = low_number (leb (length run) at) (ltb (length run) (at + 4)) (ltb (le 4 run at) 2) (ltb 8194 (le 4 run at)) (ltb (length run) (at + 4 + le 4 run at)) at _ _ _ r e
 
@@ -80,9 +81,9 @@ module _ (S : Sheet) (H : History) (lent run : List ℕ) (at : ℕ) (left : at <
   goes_on e = by_frame (frame_at run at) refl
     where
       by_frame : (f : Framed) → frame_at run at ≡ f → at < end_of f at
-      by_frame (Framed.Whole k start end) q = let F = frame_is run at q in omega (arith, F.ends)
-      by_frame (Framed.Refused r) q = absurd (never _ (frame_low run at r q) (ap ends_output (sym (frame_stops r (ap (parsed_frame S.m (body_at run at) at) q))) ∙ e))
-      by_frame Framed.End q = absurd (never _ refl (ap ends_output (sym (frame_stops _ (ap (parsed_frame S.m (body_at run at) at) q))) ∙ e))
+      by_frame (Ok (Some span)) q = let F = frame_is run at q in omega (arith, F.ends)
+      by_frame (Err r) q = absurd (never _ (frame_low run at r q) (ap ends_output (sym (frame_stops r (ap (parsed_frame S.m (body_at run at) at) q))) ∙ e))
+      by_frame (Ok None) q = absurd (never _ refl (ap ends_output (sym (frame_stops _ (ap (parsed_frame S.m (body_at run at) at) q))) ∙ e))
 
   -- the block that is accepted is what the body says
   accepted-values : answer S H (frame lent run at) ≡ accepted → block_of (parse S run at) ≡ values_in (body_at run at) S.m

@@ -1,5 +1,6 @@
 -- A run that has a sheet loads it, so every list of offers is that of some ledger in use on it.
 -- Assumes nothing.
+use Rattle.std.proofs.Common.{Ok, Err}
 use Prim.Native.Nat.{◌≤◌, suc, ℕ}
 use lib.ListN.{length, length-replicate, replicate}
 use mathlib.Core.Bool.{true}
@@ -9,7 +10,7 @@ use native.Mathlib.Omega.{arith}
 use Rattle.demand.proofs.Exists.{chains_exist}
 use Rattle.demand.proofs.Opened.{sheet_said}
 use Rattle.demand.specs.Chain.{Opening, no_sheet}
-use Rattle.refusals.specs.declared.Checked.{Checked}
+use Rattle.refusals.specs.Refusals.{Checked}
 use Rattle.replay.proofs.OpenLaws.{Said, came_to, opens_said}
 use Rattle.replay.specs.Exists.{RunChainsExist}
 use Rattle.replay.specs.Inner.{Stand, stand_of}
@@ -24,12 +25,12 @@ sheet_or T (sheet S at) = S
 sheet_or T (ended r) = T
 
 -- a run that was opened to a sheet stands at a complete ledger with that sheet
-loaded : (c : Checked) (l : Ledger) (cells : List ℕ) (at at' : ℕ) (S T : Sheet) → came_to c l cells at ≡ sheet S at' → (c ≡ Checked.Fine → complete l ≡ true) → Opening l cells T
+loaded : (c : Checked) (l : Ledger) (cells : List ℕ) (at at' : ℕ) (S T : Sheet) → came_to c l cells at ≡ sheet S at' → (c ≡ Ok tt → complete l ≡ true) → Opening l cells T
     → (complete l ≡ true) × Opening l cells S
 unfolding sheet_or
-loaded Checked.Fine l cells at at' S T e whole o =
+loaded (Ok _) l cells at at' S T e whole o =
     (whole refl, subst (Opening l cells) (sheet_said T l (kept cells [] [] [] []) o (whole refl) ∙ ap (sheet_or T) e) o)
-loaded (Checked.Refused r) l cells at at' S T e whole o = absurd (let z : ◌≡◌ {A = ℕ} 0 1 = cc in omega arith)
+loaded (Err r) l cells at at' S T e whole o = absurd (let z : ◌≡◌ {A = ℕ} 0 1 = cc in omega arith)
 
 exist_in : (n : ℕ) → 110592 ≤ n → RunChainsExist
 exist_in n h run S at e os lends =

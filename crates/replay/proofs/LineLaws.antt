@@ -5,7 +5,7 @@ use mathlib.Core.List.{List, []}
 use mathlib.Core.Path.{◌≡◌, refl, sym}
 use Rattle.frames.specs.Block as frames
 use Rattle.frames.specs.declared.block.Block.{Block}
-use Rattle.frames.specs.declared.frame.Framed.{Framed}
+use Rattle.frames.specs.Frame.{Framed}
 use Rattle.offers.specs.Offering.{reply_of}
 use Rattle.offers.specs.declared.answer.Answer.{Answer}
 use Rattle.plain.specs.Offers.{values_in}

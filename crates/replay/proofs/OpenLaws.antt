@@ -1,5 +1,6 @@
 -- A run's sheet, opened frame by frame, is what its bytes say.
 -- Assumes nothing.
+use Rattle.std.proofs.Common.{Ok, Err, Some, None}
 use Prim.Native.Nat.{◌+◌, ◌-◌, ◌<◌, ◌≤◌, suc, zero, ℕ}
 use borrow.Author.Tests.{eqb-false, le-ltb}
 use lib.Dec.{eqb, ltb}
@@ -12,14 +13,15 @@ use Rattle.demand.proofs.Opened.{end_untaken, opened, refused_untaken, sheet_sai
 use Rattle.demand.specs.Chain.{Opening, begin, load, no_sheet, sheet_with}
 use Rattle.frames.proofs.FrameLaws.{frame_is}
 use Rattle.frames.proofs.HeaderLaws.{header_bounds}
+use Rattle.frames.proofs.StepLaws.{same_taken}
 use Rattle.frames.specs.Frame.{body_at, body_of, frame_at}
-use Rattle.frames.specs.Step.{after_check, after_frame, judged, kind_due, loading_after, step_at}
-use Rattle.frames.specs.declared.frame.Framed.{Framed}
+use Rattle.frames.specs.Step.{after_check, after_frame, judged, kind_due, loading_after, step_at, taken_step}
+use Rattle.frames.specs.Frame.{Framed}
 use Rattle.frames.specs.declared.step.Loading.{Loading}
-use Rattle.frames.specs.declared.step.Step.{Step}
+use Rattle.frames.specs.Step.{Step}
 use Rattle.frames_load.proofs.LoadLaws.{end_kept, length_stored, refused-kept, with_adds}
 use Rattle.frames_load.specs.Load.{LoadStep, Loads, body_stored, load_answer, load_cells, loaded_cells, room}
-use Rattle.refusals.specs.declared.Checked.{Checked}
+use Rattle.refusals.specs.Refusals.{Checked}
 use Rattle.refusals.specs.declared.Refusal.{Refusal}
 use Rattle.refusals.specs.declared.Refusal.TheVariants.{BufferShort, KindNotDue, Short}
 use Rattle.replay.specs.Inner.{Opens, Stand, stand, stand_from, stand_of, stand_step}
@@ -31,27 +33,26 @@ use Rattle.state.specs.Loading.{LoadsSheet, after_step}
 use Rattle.state.specs.State.{complete, fresh_ledger, kept, sizes_of}
 use Rattle.state.specs.declared.ledger.Ledger.{Ledger}
 use Rattle.state.specs.declared.load.Loaded as loading
-use Rattle.state.specs.declared.load.Taken.{Taken}
 use Rattle.sums.proofs.TestLaws.{by-pick, peel, pick-false, pick_true}
 
 -- ---- where a step ends
 
-took_end : (next n : Loading) (e e' : ℕ) (c : Checked) → after_check n e' c ≡ Step.Took next e → e ≡ e'
-took_end next n e e' Checked.Fine q = cc
-took_end next n e e' (Checked.Refused r) q = absurd (refused_untaken r next e q)
+took_end : (next n : Loading) (e e' : ℕ) (c : Checked) → after_check n e' c ≡ taken_step next e → e ≡ e'
+took_end next n e e' (Ok _) q = sym (same_taken q).1
+took_end next n e e' (Err r) q = absurd (refused_untaken r next e q)
 
 -- a frame that was taken ends behind its offset, in the run
-pub step-ends : (run : List ℕ) (at : ℕ) (s next : Loading) (e : ℕ) → step_at run at s ≡ Step.Took next e → (at < e) × (e ≤ length run)
+pub step-ends : (run : List ℕ) (at : ℕ) (s next : Loading) (e : ℕ) → step_at run at s ≡ taken_step next e → (at < e) × (e ≤ length run)
 unfolding step_at
 step-ends run at s next e q = by_frame (frame_at run at) refl q
   where
-    by_frame : (f : Framed) → frame_at run at ≡ f → after_frame s at (body_of (frame_at run at) run) f ≡ Step.Took next e → (at < e) × (e ≤ length run)
-    by_frame (Framed.Whole k start e') h p =
+    by_frame : (f : Framed) → frame_at run at ≡ f → after_frame s at (body_of (frame_at run at) run) f ≡ taken_step next e → (at < e) × (e ≤ length run)
+    by_frame (Ok (Some span)) h p =
         let F = frame_is run at h in
-        let z : e ≡ e' = took_end next (loading_after s k (body_of (frame_at run at) run)) e e' (judged s k (body_of (frame_at run at) run) at) (peel (not (eqb k (kind_due s))) (refused_untaken (KindNotDue at) next e) p).1 in
+        let z : e ≡ span.end = took_end next (loading_after s span.kind (body_of (frame_at run at) run)) e span.end (judged s span.kind (body_of (frame_at run at) run) at) (peel (not (eqb span.kind (kind_due s))) (refused_untaken (KindNotDue at) next e) p).1 in
         (omega (arith, F.ends, F.low), omega (arith, F.fits))
-    by_frame (Framed.Refused r) h p = absurd (refused_untaken r next e p)
-    by_frame Framed.End h p = absurd (refused_untaken (Short at) next e (peel (eqb (kind_due s) 4) (end_untaken next e) p).1)
+    by_frame (Err r) h p = absurd (refused_untaken r next e p)
+    by_frame (Ok None) h p = absurd (refused_untaken (Short at) next e (peel (eqb (kind_due s) 4) (end_untaken next e) p).1)
 
 -- ---- room
 
@@ -77,9 +78,9 @@ opens_as : (run cells₀ cells cells' : List ℕ) (at : ℕ) (l : Ledger) (a : C
 opens_as run cells₀ cells cells' at l a e q = record { result = ap (λ (s : Stand). s.result) q; cells = e ∙ ap (λ (s : Stand). s.cells) q }
 
 -- the sheet is complete
-pub comes_whole : (run cells₀ cells : List ℕ) (at : ℕ) (l : Ledger) → complete l ≡ true → Comes run cells₀ at l cells → Opens run cells₀ (record { answer = Checked.Fine; ledger = l; at = at }) cells
+pub comes_whole : (run cells₀ cells : List ℕ) (at : ℕ) (l : Ledger) → complete l ≡ true → Comes run cells₀ at l cells → Opens run cells₀ (record { answer = (Ok tt); ledger = l; at = at }) cells
 unfolding stand_from
-comes_whole run cells₀ cells at l e c = opens_as run cells₀ cells cells at l Checked.Fine refl (sym (pick_true _ _ _ e) ∙ c.came)
+comes_whole run cells₀ cells at l e c = opens_as run cells₀ cells cells at l (Ok tt) refl (sym (pick_true _ _ _ e) ∙ c.came)
 
 module _ (run cells₀ cells cells' : List ℕ) (at : ℕ) (l : Ledger) (r : loading.Loaded) (c : Comes run cells₀ at l cells) (more : complete l ≡ false) (s : LoadsSheet l run at cells cells' r) where
   -- the step that it was
@@ -102,7 +103,7 @@ module _ (run cells₀ cells cells' : List ℕ) (at : ℕ) (l : Ledger) (r : loa
   unfolding stand_from
   goes = ap follow B.answers ∙ sym (pick-false (complete l) _ _ more) ∙ c.came
 
-  took_comes : (next : Loading) (end : ℕ) → t ≡ Step.Took next end → Comes run cells₀ end r.ledger cells' × (at < end)
+  took_comes : (next : Loading) (end : ℕ) → t ≡ taken_step next end → Comes run cells₀ end r.ledger cells' × (at < end)
   unfolding load_answer
   took_comes next end q =
       let n = room l.loading in
@@ -120,56 +121,56 @@ module _ (run cells₀ cells cells' : List ℕ) (at : ℕ) (l : Ledger) (r : loa
 
   -- which arm of the match it was
 
-  same_next : (u : Step) (end : ℕ) → (after_step l u).answer ≡ Taken.Next end → (n : Loading) × (u ≡ Step.Took n end)
-  same_next (Step.Took n e) end q = (n, let z : e ≡ end = cc in ap (Step.Took n) z)
-  same_next (Step.Refused x) end q = absurd (let z : ◌≡◌ {A = ℕ} 0 1 = cc in omega arith)
-  same_next Step.End end q = absurd (let z : ◌≡◌ {A = ℕ} 0 1 = cc in omega arith)
+  same_next : (u : Step) (end : ℕ) → (after_step l u).answer ≡ Ok (Some end) → (n : Loading) × (u ≡ taken_step n end)
+  same_next (Ok (Some (n, e))) end q = (n, let z : e ≡ end = cc in ap (taken_step n) z)
+  same_next (Err x) end q = absurd (let z : ◌≡◌ {A = ℕ} 0 1 = cc in omega arith)
+  same_next (Ok None) end q = absurd (let z : ◌≡◌ {A = ℕ} 0 1 = cc in omega arith)
 
-  same_refused : (u : Step) (x : Refusal) → (after_step l u).answer ≡ Taken.Refused x → u ≡ Step.Refused x
-  same_refused (Step.Took n e) x q = absurd (let z : ◌≡◌ {A = ℕ} 0 1 = cc in omega arith)
-  same_refused (Step.Refused y) x q = let z : y ≡ x = cc in ap Step.Refused z
-  same_refused Step.End x q = absurd (let z : ◌≡◌ {A = ℕ} 0 1 = cc in omega arith)
+  same_refused : (u : Step) (x : Refusal) → (after_step l u).answer ≡ Err x → u ≡ Err x
+  same_refused (Ok (Some (n, e))) x q = absurd (let z : ◌≡◌ {A = ℕ} 0 1 = cc in omega arith)
+  same_refused (Err y) x q = let z : y ≡ x = cc in rw z refl
+  same_refused (Ok None) x q = absurd (let z : ◌≡◌ {A = ℕ} 0 1 = cc in omega arith)
 
-  same_end : (u : Step) → (after_step l u).answer ≡ Taken.Complete → u ≡ Step.End
-  same_end (Step.Took n e) q = absurd (let z : ◌≡◌ {A = ℕ} 0 1 = cc in omega arith)
-  same_end (Step.Refused y) q = absurd (let z : ◌≡◌ {A = ℕ} 0 1 = cc in omega arith)
-  same_end Step.End q = refl
+  same_end : (u : Step) → (after_step l u).answer ≡ Ok None → u ≡ Ok None
+  same_end (Ok (Some (n, e))) q = absurd (let z : ◌≡◌ {A = ℕ} 0 1 = cc in omega arith)
+  same_end (Err y) q = absurd (let z : ◌≡◌ {A = ℕ} 0 1 = cc in omega arith)
+  same_end (Ok None) q = refl
 
   answer_is : r.answer ≡ (after_step l t).answer
   answer_is = ap (λ (x : loading.Loaded). x.answer) done
 
-  pub step-next : (end : ℕ) → r.answer ≡ Taken.Next end → Comes run cells₀ end r.ledger cells' × (at < end)
+  pub step-next : (end : ℕ) → r.answer ≡ Ok (Some end) → Comes run cells₀ end r.ledger cells' × (at < end)
   step-next end q = let (n, z) = same_next t end (sym answer_is ∙ q) in took_comes n end z
 
-  pub step-refused : (x : Refusal) → r.answer ≡ Taken.Refused x → Opens run cells₀ (record { answer = Checked.Refused x; ledger = l; at = at }) cells'
+  pub step-refused : (x : Refusal) → r.answer ≡ Err x → Opens run cells₀ (record { answer = Err x; ledger = l; at = at }) cells'
   step-refused x q =
       let z = same_refused t x (sym answer_is ∙ q) in
-      opens_as run cells₀ cells cells' at l (Checked.Refused x) (refused-kept run at l.loading cells cells' (rw z at B)) (ap follow (sym z) ∙ goes)
+      opens_as run cells₀ cells cells' at l (Err x) (refused-kept run at l.loading cells cells' (rw z at B)) (ap follow (sym z) ∙ goes)
 
-  pub step_end : r.answer ≡ Taken.Complete → Opens run cells₀ (record { answer = Checked.Refused (Short at); ledger = l; at = at }) cells'
+  pub step_end : r.answer ≡ Ok None → Opens run cells₀ (record { answer = Err (Short at); ledger = l; at = at }) cells'
   step_end q =
       let z = same_end t (sym answer_is ∙ q) in
-      opens_as run cells₀ cells cells' at l (Checked.Refused (Short at)) (end_kept run at l.loading cells cells' (rw z at B)) (ap follow (sym z) ∙ goes)
+      opens_as run cells₀ cells cells' at l (Err (Short at)) (end_kept run at l.loading cells cells' (rw z at B)) (ap follow (sym z) ∙ goes)
 
 -- ---- with cells that suffice for every sheet it is what the bytes say
 
 -- by the answer, the ledger with its cells, and the offset
 abbrev pub came_to : Checked → Ledger → List ℕ → ℕ → Opened
-came_to Checked.Fine l cells at = sheet (sheet_in cells (sizes_of l)) at
-came_to (Checked.Refused r) l cells at = ended r
+came_to (Ok _) l cells at = sheet (sheet_in cells (sizes_of l)) at
+came_to (Err r) l cells at = ended r
 
 pub record Said (o : Opened) (s : Stand) : Type 0 where
   pub opened : (S : Sheet) × Opening s.result.ledger s.cells S
-  pub whole : s.result.answer ≡ Checked.Fine → complete s.result.ledger ≡ true
+  pub whole : s.result.answer ≡ Ok tt → complete s.result.ledger ≡ true
   pub came : came_to s.result.answer s.result.ledger s.cells s.result.at ≡ o
 
 said_as : {o o' : Opened} {s s' : Stand} → o ≡ o' → s ≡ s' → Said o' s' → Said o s
 said_as e q p = rw (e, q) p
 
-never_fine : (x : Refusal) → Checked.Refused x ≡ Checked.Fine → ⊥
+never_fine : (x : Refusal) → ◌≡◌ {A = Checked} (Err x) (Ok tt) → ⊥
 never_fine x q = let z : ◌≡◌ {A = ℕ} 0 1 = cc in omega arith
 
-said_refused : (l : Ledger) (cells : List ℕ) (S : Sheet) (at : ℕ) (x : Refusal) → Opening l cells S → Said (ended x) (stand (Checked.Refused x) l at cells)
+said_refused : (l : Ledger) (cells : List ℕ) (S : Sheet) (at : ℕ) (x : Refusal) → Opening l cells S → Said (ended x) (stand (Err x) l at cells)
 said_refused l cells S at x o = record { opened = (S, o); whole = λ e. absurd (never_fine x e); came = refl }
 
 -- one step, whatever the rest is
@@ -184,11 +185,11 @@ module _ (run : List ℕ) (at : ℕ) (l : Ledger) (cells : List ℕ) (S : Sheet)
   abbrev cells' : List ℕ
   cells' = load_cells run at l.loading cells
 
-  pub more_loaded : complete l ≡ false → (next : Loading) (end : ℕ) → step_at run at l.loading ≡ Step.Took next end
+  pub more_loaded : complete l ≡ false → (next : Loading) (end : ℕ) → step_at run at l.loading ≡ taken_step next end
       → Opening (record { loading = next; heights = l.heights }) cells' (sheet_with l.loading (body_at run at) S) × (110592 ≤ length cells')
   unfolding load_cells
   more_loaded f next end e =
-      let t : Step = Step.Took next end in
+      let t : Step = taken_step next end in
       let stored : cells' ≡ body_stored l.loading (body_at run at) cells = pick-false _ _ _ roomy ∙ ap (loaded_cells l.loading (body_at run at) cells) e in
       let L : LoadStep run at l.loading cells cells' t = with_adds run at l.loading cells cells' t (record { answers = sym (answer_said ∙ e); cells = refl }) in
       (load o (sheet-step l run at cells cells' t t f L refl), omega (arith, h, ap length stored ∙ length_stored l.loading (body_at run at) cells))
@@ -203,11 +204,11 @@ module _ (fuel : ℕ) (run : List ℕ) (at : ℕ) (l : Ledger) (cells : List ℕ
   stands = stand_step (λ next end. stand_from fuel run end next (load_cells run at l.loading cells)) l at cells
 
   by_step : complete l ≡ false → (u : Step) → step_at run at l.loading ≡ u → Said (says u) (stands u)
-  by_step f (Step.Took next end) e =
+  by_step f (Ok (Some (next, end))) e =
       let (o', h') = more_loaded run at l cells S o h f next end e in
       rest end (record { loading = next; heights = l.heights }) (load_cells run at l.loading cells) (sheet_with l.loading (body_at run at) S) o' h'
-  by_step f (Step.Refused r) e = said_refused l cells S at r o
-  by_step f Step.End e = said_refused l cells S at (Short at) o
+  by_step f (Err r) e = said_refused l cells S at r o
+  by_step f (Ok None) e = said_refused l cells S at (Short at) o
 
   by_complete : (b : Bool) → complete l ≡ b → Said (open_from (suc fuel) run at l.loading S) (stand_from (suc fuel) run at l cells)
   unfolding open_from stand_from complete

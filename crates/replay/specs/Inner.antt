@@ -1,13 +1,13 @@
 -- What the functions that open a run and offer its blocks promise.
 -- Assumes nothing.
-use Rattle.std.specs.Prelude.{◌≤◌, suc, zero, ℕ, leb, length, Bool, false, true, List, [], ◌++◌, ◌≡◌}
+use Rattle.std.specs.Prelude.{◌≤◌, suc, zero, ℕ, leb, length, Bool, false, true, List, [], ◌++◌, ◌≡◌, Ok, Err, Some, None}
 use Rattle.frames.specs.Frame.{body_at, frame_at}
-use Rattle.frames.specs.declared.step.Step.{Step}
+use Rattle.frames.specs.Step.{Step}
 use Rattle.frames_load.specs.Load.{load_answer, load_cells}
 use Rattle.offers.specs.Offering.{answer_from}
 use Rattle.plain.specs.Answer.{Answer, is_accepted}
 use Rattle.plain.specs.Offers.{Offer, frame, offered, values_in}
-use Rattle.refusals.specs.declared.Checked.{Checked}
+use Rattle.refusals.specs.Refusals.{Checked}
 use Rattle.refusals.specs.declared.Refusal.TheVariants.{Short}
 use Rattle.replay.specs.Reading.{answer_line, end_of, ends_output}
 use Rattle.replay.specs.declared.blocks.Blocks as blocks
@@ -31,16 +31,16 @@ stand answer l at cells = record { result = record { answer = answer; ledger = l
 
 -- after a step at an offset: a frame that was taken is followed by the rest; any other step ends it there, and leaves everything as it was
 abbrev pub stand_step : (Ledger → ℕ → Stand) → Ledger → ℕ → List ℕ → Step → Stand
-stand_step rest l at cells (Step.Took next end) = rest (record { loading = next; heights = l.heights }) end
-stand_step rest l at cells (Step.Refused r) = stand (Checked.Refused r) l at cells
-stand_step rest l at cells Step.End = stand (Checked.Refused (Short at)) l at cells
+stand_step rest l at cells (Ok (Some (next, end))) = rest (record { loading = next; heights = l.heights }) end
+stand_step rest l at cells (Err r) = stand (Err r) l at cells
+stand_step rest l at cells (Ok None) = stand (Err (Short at)) l at cells
 
 -- from an offset on, with any ledger and cells of any length. A frame has 6 bytes or more, so that as many as the run has bytes,
 -- and one more, are never used up
 unfoldable pub stand_from : ℕ → List ℕ → ℕ → Ledger → List ℕ → Stand
-stand_from zero run at l cells = stand (Checked.Refused (Short at)) l at cells
+stand_from zero run at l cells = stand (Err (Short at)) l at cells
 stand_from (suc fuel) run at l cells =
-    pick (complete l) (stand Checked.Fine l at cells)
+    pick (complete l) (stand (Ok tt) l at cells)
     (stand_step (λ next end. stand_from fuel run end next (load_cells run at l.loading cells)) l at cells (load_answer run at l.loading (length cells)))
 
 -- a run and the cells at first, with a fresh ledger

@@ -1,11 +1,11 @@
 -- A run's sheet, read from its bytes (document 01, "Slips": "A run is one head, one starts slip, t transactions in number order, then blocks").
 -- Assumes nothing.
-use Rattle.std.specs.Prelude.{suc, zero, ℕ, eqb, List}
+use Rattle.std.specs.Prelude.{suc, zero, ℕ, eqb, List, Ok, Err, Some, None}
 use Rattle.demand.specs.Chain.{sheet_with}
 use Rattle.frames.specs.Frame.{body_at}
 use Rattle.frames.specs.Step.{kind_due, step_at}
 use Rattle.frames.specs.declared.step.Loading.{Loading}
-use Rattle.frames.specs.declared.step.Step.{Step}
+use Rattle.frames.specs.Step.{Step}
 use Rattle.refusals.specs.declared.Refusal.{Refusal}
 use Rattle.refusals.specs.declared.Refusal.TheVariants.{Short}
 use Rattle.sheets.specs.Sheet.{Sheet}
@@ -23,9 +23,9 @@ pub data Opened : Type 0 where
 
 -- after a step at an offset: the rest follows a frame that was taken
 abbrev pub open_step : (Loading → ℕ → Opened) → ℕ → Step → Opened
-open_step rest at (Step.Took next end) = rest next end
-open_step rest at (Step.Refused r) = ended r
-open_step rest at Step.End = ended (Short at)
+open_step rest at (Ok (Some (next, end))) = rest next end
+open_step rest at (Err r) = ended r
+open_step rest at (Ok None) = ended (Short at)
 
 -- from an offset and the sheet so far. A frame has 6 bytes or more, so that as many as the run has bytes, and one more, are never used up
 unfoldable pub open_from : ℕ → List ℕ → ℕ → Loading → Sheet → Opened

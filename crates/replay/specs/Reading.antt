@@ -1,9 +1,9 @@
 -- The reading of a run, whole (document 01, "One reading, whole").
 -- Assumes nothing.
-use Rattle.std.specs.Prelude.{suc, zero, ℕ, leb, ltb, length, Bool, false, true, List, [], ◌++◌}
+use Rattle.std.specs.Prelude.{suc, zero, ℕ, leb, ltb, length, Bool, false, true, List, [], ◌++◌, Ok, Err, None, Some}
 use Rattle.demand.specs.Chain.{no_sheet}
 use Rattle.frames.specs.Frame.{frame_at}
-use Rattle.frames.specs.declared.frame.Framed.{Framed}
+use Rattle.frames.specs.Frame.{Framed}
 use Rattle.plain.specs.Answer.{Answer, accepted, no_offer, refused}
 use Rattle.plain.specs.Logs.{Logs, Values, empty_logs, history_of}
 use Rattle.plain.specs.Offers.{Offer, frame, offer_needs, offered}
@@ -22,9 +22,9 @@ frame_offer S run at = frame (offer_needs S) run at
 
 -- where the next frame begins
 abbrev pub end_of : Framed → ℕ → ℕ
-end_of (Framed.Whole kind start end) at = end
-end_of (Framed.Refused r) at = at
-end_of Framed.End at = at
+end_of (Ok (Some span)) at = span.end
+end_of (Err r) at = at
+end_of (Ok None) at = at
 
 -- the line of an offered block b: "A block turned away prints `refused`, number, place, where its `ok` would stand"
 unfoldable pub answer_line : Values → Answer → List ℕ

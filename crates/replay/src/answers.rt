@@ -8,7 +8,7 @@ ghost use Rattle.replay.specs.Reading.{answer_line, end_of, ends_output};
 ghost use Rattle.text.specs.Wrote.{Wrote};
 
 use frames::block::block_of;
-use frames::frame::{Framed, body, frame};
+use frames::frame::{Span, body, frame};
 use offers::answer::Answer;
 use refusals::number;
 use text::lines::{put_ok, put_refused};
@@ -50,13 +50,9 @@ pub fn next_frame(run: &[u8], at: usize) -> usize
     ensures { result ≡ end_of (frame_at run.now at) at }
 {
     match frame(run, at) {
-        Framed::Whole {
-            kind: _,
-            start: _,
-            end,
-        } => end,
-        Framed::Refused(_) => at,
-        Framed::End => at,
+        Ok(Some(Span { end, .. })) => end,
+        Err(_) => at,
+        Ok(None) => at,
     }
 }
 

@@ -1,14 +1,14 @@
 // A run's sheet, loaded up to the first block.
 ghost use Rattle.replay.specs.Inner.{Opens};
 
-use refusals::{Checked, Refusal};
+use refusals::Refusal;
 use state::ledger::{Ledger, fresh, is_complete};
-use state::load::{Taken, load_sheet};
+use state::load::load_sheet;
 
 // The ledger with its sheet and where the blocks begin; or the refusal that ends the reading.
 #[derive(Clone, Copy)]
 pub struct Opened {
-    pub answer: Checked,
+    pub answer: Result<(), Refusal>,
     pub ledger: Ledger,
     pub at: usize,
 }
@@ -24,20 +24,20 @@ pub fn open_run(run: &[u8], sheet: &mut [u8]) -> Opened
         let answer = loaded.answer;
         let next = loaded.ledger;
         match answer {
-            Taken::Next(end) => {
+            Ok(Some(end)) => {
                 at = end;
                 ledger = next;
             }
-            Taken::Refused(r) => {
+            Err(r) => {
                 return Opened {
-                    answer: Checked::Refused(r),
+                    answer: Err(r),
                     ledger,
                     at,
                 };
             }
-            Taken::Complete => {
+            Ok(None) => {
                 return Opened {
-                    answer: Checked::Refused(Refusal::Short(at)),
+                    answer: Err(Refusal::Short(at)),
                     ledger,
                     at,
                 };
@@ -45,7 +45,7 @@ pub fn open_run(run: &[u8], sheet: &mut [u8]) -> Opened
         }
     }
     Opened {
-        answer: Checked::Fine,
+        answer: Ok(()),
         ledger,
         at,
     }

@@ -1,7 +1,7 @@
 -- Refusal 16 of the call for a report, and what its acceptance gives.
 -- Assumes nothing.
-use Prim.Native.Nat.{◌+◌, ◌<◌, ◌≤◌, ℕ}
-use borrow.Author.Tests.{le-ltb, lt-ltb}
+use Rattle.std.proofs.Common.{Ok, Err}
+use Prim.Native.Nat.{◌+◌, ◌≤◌, ℕ}
 use lib.Dec.{ltb}
 use lib.ListN.{drop, get_or, length}
 use lib.Seq.{sets-eq}
@@ -13,12 +13,12 @@ use native.Mathlib.Omega.{arith}
 use Rattle.admission.specs.Replies.{reply_to}
 use Rattle.extent.proofs.Bound.{text_fits}
 use Rattle.extent.specs.Buffers.{bytes_of}
-use Rattle.plain.proofs.AnswerLaws.{lent_enough, refuse_false, refuse_true, then_accepted, then_go, then_stop}
+use Rattle.plain.proofs.AnswerLaws.{lent_enough, then_accepted, then_go, then_stop}
 use Rattle.plain.specs.Answer.{Answer, ◌then◌, accepted, refuse, refused}
 use Rattle.plain.specs.Plain.{lent_answer}
 use Rattle.readings.proofs.RoomLaws.{lent-append}
 use Rattle.refusals.specs.Refusals.{refusal_number, refusal_place}
-use Rattle.refusals.specs.declared.Checked.{Checked}
+use Rattle.refusals.specs.Refusals.{Checked}
 use Rattle.refusals.specs.declared.Refusal.{Refusal}
 use Rattle.replay.specs.Inner.{Ample}
 use Rattle.replay.specs.Reading.{reading_text}
@@ -34,14 +34,11 @@ module _ (n k : ℕ) where
   both needs lent e = sym (lent-append needs lent (n ∷ []) (k ∷ []) e) ∙ ap (λ (a : Answer). lent_answer needs lent then a) (then_accepted _)
 
 module _ (needs lent : List ℕ) (n k : ℕ) (c : Checked) (e : length needs ≡ length lent) (q : reply_to c ≡ lent_answer needs lent) where
-  pub room-refused : (x : Refusal) → c ≡ Checked.Refused x → refused (refusal_number x) (refusal_place x) ≡ lent_answer (needs ++ (n ∷ [])) (lent ++ (k ∷ []))
+  pub room-refused : (x : Refusal) → c ≡ Err x → refused (refusal_number x) (refusal_place x) ≡ lent_answer (needs ++ (n ∷ [])) (lent ++ (k ∷ []))
   room-refused x h = sym (both n k needs lent e ∙ then_stop _ _ _ _ (sym q ∙ ap reply_to h))
 
-  pub room-short : c ≡ Checked.Fine → k < n → refused 16 n ≡ lent_answer (needs ++ (n ∷ [])) (lent ++ (k ∷ []))
-  room-short h l = sym (both n k needs lent e ∙ then_go _ _ _ (sym q ∙ ap reply_to h) (refuse_true _ 16 n (lt-ltb k n l)))
-
-  pub room_fine : c ≡ Checked.Fine → n ≤ k → accepted ≡ lent_answer (needs ++ (n ∷ [])) (lent ++ (k ∷ []))
-  room_fine h l = sym (both n k needs lent e ∙ then_go _ _ _ (sym q ∙ ap reply_to h) (refuse_false _ 16 n (le-ltb k n l)))
+  pub room_then : {a : Answer} → c ≡ Ok tt → a ≡ refuse (ltb k n) 16 n → a ≡ lent_answer (needs ++ (n ∷ [])) (lent ++ (k ∷ []))
+  room_then h w = sym (both n k needs lent e ∙ then_go _ _ _ (sym q ∙ ap reply_to h) (sym w))
 
 pub room_ample : (K : Kept) (W : Buffers) (k : ℕ) → accepted ≡ lent_answer report_needs (lengths_of K W ++ (k ∷ [])) → Ample K W × (262144 ≤ k)
 room_ample K W k e =
@@ -66,7 +63,7 @@ stored_whole text out out' n h w =
     (e, w.bytes ∙ sets-eq text out 0 (omega arith) ∙ ap (λ (k : ℕ). text ++ drop k out) behind)
 
 module _ (run : List ℕ) (K : Kept) (W : Buffers) (out : List ℕ) where
-  pub reports-refused : (c : Checked) (x : Refusal) → c ≡ Checked.Refused x → reply_to c ≡ lent_answer report_needs (lengths_of K W ++ (length out ∷ []))
+  pub reports-refused : (c : Checked) (x : Refusal) → c ≡ Err x → reply_to c ≡ lent_answer report_needs (lengths_of K W ++ (length out ∷ []))
       → Reports run K W out (refused (refusal_number x) (refusal_place x)) 0 K W out
   reports-refused c x h e = record { answered = ap reply_to (sym h) ∙ e; inside = omega arith; text = λ t. absurd (let z : ◌≡◌ {A = ℕ} 0 1 = cc in omega arith); spared = λ t. absurd (let z : ◌≡◌ {A = ℕ} 0 1 = cc in omega arith); quiet = λ f. (refl, refl, refl, refl) }
 

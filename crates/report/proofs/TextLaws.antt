@@ -1,5 +1,6 @@
 -- The whole text, put together from its parts.
 -- Assumes nothing.
+use Rattle.std.proofs.Common.{Ok, Err}
 use Prim.Native.Nat.{◌<◌, ◌≤◌, suc, ℕ}
 use borrow.Author.Tests.{le-ltb, lt-ltb}
 use lib.ListN.{length}
@@ -19,7 +20,6 @@ use Rattle.plain.specs.Plain.{ledger}
 use Rattle.plain.specs.Report.{Report, report_of}
 use Rattle.readings.specs.Reading.{report_in}
 use Rattle.refusals.specs.Refusals.{refusal_number, refusal_place}
-use Rattle.refusals.specs.declared.Checked.{Checked}
 use Rattle.refusals.specs.declared.Refusal.{Refusal}
 use Rattle.replay.proofs.CourseLaws.{puts_text}
 use Rattle.replay.proofs.OpenLaws.{Said}
@@ -115,12 +115,12 @@ module _ (run : List ℕ) {out out' : List ℕ} {r : ℕ} where
   unfolding reading_text
   reads-opened o h e w = wrote_as (ap (opened_text run) e ∙ sym (pick-false _ _ _ (le-ltb 65536 (length run) h))) w
 
-  pub reads-refused : {s : Stand} {x : Refusal} {n k : ℕ} → length run ≤ 65536 → Said (open_from (suc (length run)) run 0 no_loading no_sheet) s → s.result.answer ≡ Checked.Refused x
+  pub reads-refused : {s : Stand} {x : Refusal} {n k : ℕ} → length run ≤ 65536 → Said (open_from (suc (length run)) run 0 no_loading no_sheet) s → s.result.answer ≡ Err x
       → n ≡ refusal_number x → k ≡ refusal_place x → Wrote out 0 (refused_line n k) out' r → Wrote out 0 (reading_text run) out' r
   unfolding opened_text
   reads-refused {x = x} h O e en ek w = reads-opened (ended x) h (rw e at O.came) (wrote_as (rw (en, ek) refl) w)
 
-  pub reads_whole : {s : Stand} (ranks cuts cites good : List ℕ) → length run ≤ 65536 → Said (open_from (suc (length run)) run 0 no_loading no_sheet) s → s.result.answer ≡ Checked.Fine
+  pub reads_whole : {s : Stand} (ranks cuts cites good : List ℕ) → length run ≤ 65536 → Said (open_from (suc (length run)) run 0 no_loading no_sheet) s → s.result.answer ≡ Ok tt
       → PutsOpened run s.result.at s.result.ledger (kept s.cells ranks cuts cites good) out out' r → Wrote out 0 (reading_text run) out' r
   reads_whole {s} ranks cuts cites good h O e p =
       let l : Ledger = s.result.ledger in

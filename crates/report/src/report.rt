@@ -1,5 +1,6 @@
 // The call for the reading of a run as text.
 ghost use Rattle.std.specs.Prelude.{length, [], ◌++◌, ◌∷◌, ◌≡◌};
+ghost use Rattle.std.specs.Result.{result_unwrap_or};
 ghost use Rattle.admission.specs.Replies.{reply_to};
 ghost use Rattle.plain.specs.Plain.{lent_answer};
 ghost use Rattle.report.specs.Reports.{Reports, report_needs};
@@ -8,18 +9,11 @@ ghost use Rattle.state.specs.Lengths.{needs_list};
 ghost use Rattle.state.specs.State.{kept};
 
 use crate::whole::put_within;
-use refusals::{Checked, Refusal};
-use state::lengths::{Lengths, check_lengths};
-
-// The answer, and the place after the text.
-#[derive(Clone, Copy)]
-pub struct Reported {
-    pub answer: Checked,
-    pub length: usize,
-}
+use refusals::Refusal;
+use state::lengths::{Lengths, check_lengths, check_room};
 
 // Refusal 16 at the first buffer that is shorter than the largest sheet and the longest text need.
-fn check_room(lent: Lengths, out: usize) -> Checked
+fn check_lent(lent: Lengths, out: usize) -> Result<(), Refusal>
     ensures { reply_to result ≡ lent_answer report_needs (needs_list lent ++ (out ∷ [])) }
 {
     let most = Lengths {
@@ -32,17 +26,11 @@ fn check_room(lent: Lengths, out: usize) -> Checked
         table: 1024,
         order: 2048,
     };
-    match check_lengths(most, lent) {
-        Checked::Refused(r) => Checked::Refused(r),
-        Checked::Fine => {
-            if out < 262144 {
-                return Checked::Refused(Refusal::BufferShort(262144));
-            }
-            Checked::Fine
-        }
-    }
+    check_lengths(most, lent)?;
+    check_room(262144, out)
 }
 
+// Returns the length of the text.
 pub fn report_run(
     run: &[u8],
     sheet: &mut [u8],
@@ -54,14 +42,14 @@ pub fn report_run(
     table: &mut [u8],
     order: &mut [u16],
     out: &mut [u8],
-) -> Reported
+) -> Result<usize, Refusal>
     ensures { Reports
         run.now
         (kept sheet.old ranks.old cuts.old cites.old good.old)
         (buffers counts.old table.old order.old)
         out.old
-        (reply_to result.answer)
-        result.length
+        (reply_to result)
+        (result_unwrap_or result 0)
         (kept sheet.new ranks.new cuts.new cites.new good.new)
         (buffers counts.new table.new order.new)
         out.new }
@@ -76,16 +64,8 @@ pub fn report_run(
         table: table.len(),
         order: order.len(),
     };
-    match check_room(lent, out.len()) {
-        Checked::Refused(r) => Reported {
-            answer: Checked::Refused(r),
-            length: 0,
-        },
-        Checked::Fine => Reported {
-            answer: Checked::Fine,
-            length: put_within(
-                run, sheet, ranks, cuts, cites, good, counts, table, order, out,
-            ),
-        },
-    }
+    check_lent(lent, out.len())?;
+    Ok(put_within(
+        run, sheet, ranks, cuts, cites, good, counts, table, order, out,
+    ))
 }

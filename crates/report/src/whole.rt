@@ -9,7 +9,7 @@ ghost use Rattle.state.specs.State.{complete, kept};
 ghost use Rattle.text.specs.Wrote.{Wrote};
 
 use closing::closing::put_readings;
-use refusals::{Checked, number, place};
+use refusals::{number, place};
 use replay::blocks::put_blocks;
 use replay::opening::open_run;
 use state::ledger::{Ledger, sizes};
@@ -84,8 +84,8 @@ fn put_reading(
     let opened = open_run(run, sheet);
     let answer = opened.answer;
     match answer {
-        Checked::Refused(r) => put_refused(out, 0, number(r), place(r)),
-        Checked::Fine => put_opened(
+        Err(r) => put_refused(out, 0, number(r), place(r)),
+        Ok(()) => put_opened(
             opened.ledger,
             sheet,
             ranks,

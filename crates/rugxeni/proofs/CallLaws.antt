@@ -7,7 +7,7 @@ use mathlib.Core.List.{List}
 use mathlib.Core.Path.{◌≡◌, refl, sym}
 use native.Mathlib.Omega.{arith}
 use Rattle.encoding.specs.Writing.{Wrote}
-use Rattle.encoding.specs.declared.emit.Written.{Written}
+use Rattle.encoding.specs.Writing.{Written}
 use Rattle.frames.specs.declared.step.Loading.{Loading}
 use Rattle.offers.specs.Offering.{Offers, reply_of}
 use Rattle.offers.specs.declared.answer.Offered.{Offered}
@@ -15,7 +15,7 @@ use Rattle.plain.specs.Answer.{Answer, is_accepted}
 use Rattle.plain.specs.Offers.{Offer}
 use Rattle.plain.specs.Report.{Query}
 use Rattle.readings.specs.Reading.{Reads}
-use Rattle.refusals.specs.declared.Checked.{Checked}
+use Rattle.refusals.specs.Refusals.{Checked}
 use Rattle.rugxeni.specs.Boundary.{LoadCall, OfferCall, ReadCall, WriteCall}
 use Rattle.rugxeni.specs.Numbers.{Said, is_taken, ledger_in, load_number, load_place, number_of, numbers_of, place_of, size, written_number, written_place}
 use Rattle.settlement.specs.Tables.{Buffers}

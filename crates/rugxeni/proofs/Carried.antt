@@ -1,5 +1,6 @@
 -- What a call of the boundary writes as numbers is the ledger that it returned.
 -- Assumes nothing.
+use Rattle.std.proofs.Common.{Ok, Err, Some, None}
 use Prim.Native.Nat.{◌+◌, ◌-◌, ◌<◌, ◌≤◌, min, ℕ}
 use lib.Dec.{eqb, ltb}
 use lib.ListN.{get_or-append, get_or, get_or-replicate, length, replicate}
@@ -14,7 +15,7 @@ use Rattle.demand.specs.Chain.{SameFront}
 use Rattle.frames.proofs.StepLaws.{took_judged}
 use Rattle.frames.specs.Step.{header_loaded, loading_after}
 use Rattle.frames.specs.declared.step.Loading.{Loading}
-use Rattle.frames.specs.declared.step.Step.{Step}
+use Rattle.frames.specs.Step.{Step}
 use Rattle.frames_load.proofs.LoadLaws.{took_it}
 use Rattle.frames_load.specs.Load.{LoadStep}
 use Rattle.offers.specs.Offering.{answer_from, reply_of}
@@ -118,13 +119,13 @@ record Left (l : Ledger) (r : Loaded) : Type 0 where
   same : is_taken r.answer ≡ false → r.ledger ≡ l
 
 by_step : (l : Ledger) (run : List ℕ) (at : ℕ) (before after : List ℕ) (t : Step) → LoadStep run at l.loading before after t → Left l (after_step l t)
-by_step l run at before after (Step.Took next end) L = record {
+by_step l run at before after (Ok (Some (next, end))) L = record {
   long = refl;
   low = λ h. rw (took_judged l.loading run at next end (took_it run at l.loading before after next end L.bytes).step).1 (after_stage l.loading _ _ h);
   same = λ e. absurd (let z : ◌≡◌ {A = ℕ} 0 1 = cc in omega arith);
 }
-by_step l run at before after (Step.Refused x) L = record { long = refl; low = λ h. h; same = λ e. refl }
-by_step l run at before after Step.End L = record { long = refl; low = λ h. h; same = λ e. refl }
+by_step l run at before after (Err x) L = record { long = refl; low = λ h. h; same = λ e. refl }
+by_step l run at before after (Ok None) L = record { long = refl; low = λ h. h; same = λ e. refl }
 
 load-left : (l : Ledger) (run : List ℕ) (at : ℕ) (before after : List ℕ) (r : Loaded) → LoadsSheet l run at before after r → Left l r
 load-left l run at before after r p = go (complete l) refl

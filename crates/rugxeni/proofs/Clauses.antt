@@ -5,7 +5,7 @@ use lib.ListN.{length}
 use mathlib.Core.List.{List, [], ◌∷◌}
 use mathlib.Core.Path.{◌≡◌}
 use Rattle.encoding.specs.Writing.{Wrote}
-use Rattle.encoding.specs.declared.emit.Written.{Written}
+use Rattle.encoding.specs.Writing.{Written}
 use Rattle.frames.specs.declared.step.Loading.{Loading}
 use Rattle.offers.specs.Offering.{Offers, reply_of}
 use Rattle.offers.specs.declared.answer.Offered.{Offered}
@@ -13,7 +13,7 @@ use Rattle.plain.specs.Answer.{Answer, is_accepted}
 use Rattle.plain.specs.Offers.{Offer}
 use Rattle.plain.specs.Report.{Query}
 use Rattle.readings.specs.Reading.{Reads}
-use Rattle.refusals.specs.declared.Checked.{Checked}
+use Rattle.refusals.specs.Refusals.{Checked}
 use Rattle.report.specs.Reports.{Reports}
 use Rattle.rugxeni.specs.Boundary.{LoadCall, OfferCall, ReadCall, ReportCall, WriteCall}
 use Rattle.rugxeni.specs.Numbers.{Said, is_taken, ledger_in, length_or, load_number, load_place, number_of, numbers_of, place_of, size, written_number, written_place}

@@ -1,11 +1,16 @@
 -- The ledger's numbers, one by one, and what is said.
 -- Assumes nothing.
+use Rattle.std.proofs.Common.{Err, Ok, Result}
+use Rattle.std.specs.Result.{result_and, result_unwrap_or}
 use Prim.Native.Nat.{◌-◌, ◌≤◌, min, suc, ℕ}
 use lib.ListN.{get_or, length, set}
 use mathlib.Core.List.{List, [], ◌∷◌}
 use mathlib.Core.Path.{◌∙◌, ◌≡◌, ap, refl, sym}
 use native.Mathlib.Omega.{arith}
-use Rattle.rugxeni.specs.Numbers.{Said, ledger_in, numbers_of}
+use Rattle.admission.specs.Replies.{reply_to}
+use Rattle.refusals.specs.Refusals.{Checked}
+use Rattle.refusals.specs.declared.Refusal.{Refusal}
+use Rattle.rugxeni.specs.Numbers.{length_or, ledger_in, number_of, numbers_of, place_of, Said, written_number, written_place}
 use Rattle.state.specs.declared.ledger.Ledger.{Ledger}
 use Rattle.sums.proofs.SeqLaws.{tabulate_is, written-front}
 use Rattle.sums.specs.Seq.{fill, written}
@@ -43,3 +48,15 @@ said_by e q t s = record { returned = s.returned ∙ e; written = s.written ∙ 
 
 pub said_as : {n n' p p' v code : ℕ} {l l' : List ℕ} → n ≡ n' → p ≡ p' → Said n p v code l l' → Said n' p' v code l l'
 said_as e q s = said_by e q refl s
+
+-- a check's answer, told with the number 0
+pub said_of_and : (a : Checked) {b : Result ℕ Refusal} {code : ℕ} {l l' : List ℕ} → b ≡ result_and a (Ok 0)
+    → Said (number_of (reply_to b)) (place_of (reply_to b)) (result_unwrap_or b 0) code l l' → Said (number_of (reply_to a)) (place_of (reply_to a)) 0 code l l'
+said_of_and (Ok _) e s = rw e at s
+said_of_and (Err r) e s = rw e at s
+
+-- a text's length, told as that of a frame that was written
+pub said_of_length : (a : Result ℕ Refusal) {code : ℕ} {l l' : List ℕ} → Said (written_number a) (written_place a) 0 code l l'
+    → Said (number_of (reply_to a)) (length_or (result_unwrap_or a 0) (reply_to a)) 0 code l l'
+said_of_length (Ok n) s = s
+said_of_length (Err r) s = s

@@ -1,5 +1,6 @@
 -- What the boundary's writers wrote is read back: the theorem `written_read`.
 -- Assumes nothing.
+use Rattle.std.proofs.Common.{Ok, Err}
 use Prim.Native.Nat.{◌+◌, ◌≤◌, ℕ}
 use lib.Dec.{ltb}
 use lib.ListN.{drop, get_or, length, take}
@@ -14,10 +15,10 @@ use Rattle.encoding.proofs.OneWriting.{one-writing}
 use Rattle.encoding.proofs.VerdictLaws.{block-counted, transaction_agreed}
 use Rattle.encoding.specs.OneWriting.{Kind, OneWriting, Reads, balances_kind, block_kind, header_kind, transaction_kind, writing}
 use Rattle.encoding.specs.Writing.{Wrote}
-use Rattle.encoding.specs.declared.emit.Written.{Written}
+use Rattle.encoding.specs.Writing.{Written}
 use Rattle.frames.specs.declared.step.Loading.{Loading}
 use Rattle.refusals.specs.Refusals.{refusal_number}
-use Rattle.refusals.specs.declared.Checked.{Checked}
+use Rattle.refusals.specs.Refusals.{Checked}
 use Rattle.refusals.specs.declared.Refusal.{Refusal}
 use Rattle.refusals.specs.declared.Refusal.TheVariants.{AccountTwice, BadLength, BodyLength, BufferShort, CitedBefore, EntryAhead, EntryBack, KindNotDue, LogFull, NoInstance, NoPart, NoTransaction, NotNumberDue, OutOfRange, RankNotAbove, Short, SumsDiffer}
 use Rattle.rugxeni.specs.Boundary.{WriteCall, block_with, counts_with, cut_with, header_with}
@@ -49,19 +50,19 @@ counted LogFull = omega arith
 
 -- a writer's answer whose number is 0: the values were fine, there was room, and the frame is at the buffer's front
 record Whole (checked : Checked) (frame out out' : List ℕ) (w : Written) : Type 0 where
-  fine : checked ≡ Checked.Fine
-  answer : w ≡ Written.Bytes (length frame)
+  fine : checked ≡ Ok tt
+  answer : w ≡ Ok (length frame)
   buffer : out' ≡ frame ++ drop (length frame) out
 
-by_room : (t : Bool) (frame out : List ℕ) {out' : List ℕ} {w : Written} → w ≡ pick t (Written.Refused (BufferShort (length frame))) (Written.Bytes (length frame))
-    → out' ≡ pick t out (frame ++ drop (length frame) out) → written_number w ≡ 0 → Whole Checked.Fine frame out out' w
+by_room : (t : Bool) (frame out : List ℕ) {out' : List ℕ} {w : Written} → w ≡ pick t (Err (BufferShort (length frame))) (Ok (length frame))
+    → out' ≡ pick t out (frame ++ drop (length frame) out) → written_number w ≡ 0 → Whole (Ok tt) frame out out' w
 unfolding pick
 by_room true frame out e q z = let n : ◌≡◌ {A = ℕ} 16 0 = sym (ap written_number e) ∙ z in absurd (omega arith)
 by_room false frame out e q z = record { fine = refl; answer = e; buffer = q }
 
 whole : (checked : Checked) (frame out : List ℕ) {out' : List ℕ} {w : Written} → Wrote checked frame out out' w → written_number w ≡ 0 → Whole checked frame out out' w
-whole Checked.Fine frame out p z = by_room (ltb (length out) (length frame)) frame out p.answers p.buffer z
-whole (Checked.Refused r) frame out p z = let n : refusal_number r ≡ 0 = sym (ap written_number p.answers) ∙ z in absurd (omega (arith, counted r))
+whole (Ok _) frame out p z = by_room (ltb (length out) (length frame)) frame out p.answers p.buffer z
+whole (Err r) frame out p z = let n : refusal_number r ≡ 0 = sym (ap written_number p.answers) ∙ z in absurd (omega (arith, counted r))
 
 -- a call that returned 0 was lent 22 numbers
 enough : {n : List ℕ} {checked : Loading → Checked} {frame : Loading → List ℕ} {out told out' told' : List ℕ} {code : ℕ}
@@ -76,7 +77,7 @@ told_first p v (x ∷ l) h = refl
 
 -- a writer whose fine verdict gives the kind's, and whose frame is the kind's writing
 module _ (n : List ℕ) (K : Kind) (v : K.Content) (checked : Loading → Checked) (frame : Loading → List ℕ) (one : OneWriting (ledger_in n).loading K)
-    (fine : checked (ledger_in n).loading ≡ Checked.Fine → K.verdict v ≡ Checked.Fine) (bytes : frame (ledger_in n).loading ≡ writing K v) where
+    (fine : checked (ledger_in n).loading ≡ Ok tt → K.verdict v ≡ Ok tt) (bytes : frame (ledger_in n).loading ≡ writing K v) where
   read_back : ReadBack n K v checked frame
   read_back out told out' told' code c z fits =
       let s = (ledger_in n).loading in

@@ -2,7 +2,7 @@
 -- Assumes nothing.
 use Rattle.std.specs.Prelude.{◌<◌, ◌≤◌, ℕ, get_or, length, List, ◌≡◌}
 use Rattle.encoding.specs.Writing.{Wrote}
-use Rattle.encoding.specs.declared.emit.Written.{Written}
+use Rattle.encoding.specs.Writing.{Written}
 use Rattle.frames.specs.declared.block.Block.{Block}
 use Rattle.frames.specs.declared.header.Header.{Header}
 use Rattle.frames.specs.declared.step.Loading.{Loading}
@@ -12,7 +12,7 @@ use Rattle.plain.specs.Answer.{Answer, is_accepted}
 use Rattle.plain.specs.Offers.{Offer}
 use Rattle.plain.specs.Report.{Query}
 use Rattle.readings.specs.Reading.{Reads}
-use Rattle.refusals.specs.declared.Checked.{Checked}
+use Rattle.refusals.specs.Refusals.{Checked}
 use Rattle.report.specs.Reports.{Reports}
 use Rattle.rugxeni.specs.Numbers.{Said, is_taken, ledger_in, load_number, load_place, numbers_of, size}
 use Rattle.rugxeni.specs.Numbers.{length_or, number_of, place_of, written_number, written_place}

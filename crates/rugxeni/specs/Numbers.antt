@@ -1,12 +1,12 @@
 -- The ledger's own numbers in a caller's slice, and answers as numbers. The layout is ours: document 01 has none.
 -- Assumes nothing.
-use Rattle.std.specs.Prelude.{◌+◌, min, ℕ, get_or, Bool, false, true, List, [], ◌∷◌, ◌≡◌}
-use Rattle.encoding.specs.declared.emit.Written.{Written}
-use Rattle.frames.specs.declared.frame.Framed.{Framed}
+use Rattle.std.specs.Prelude.{◌+◌, min, ℕ, get_or, Bool, false, true, List, [], ◌∷◌, ◌≡◌, Ok, Err, Some, None}
+use Rattle.encoding.specs.Writing.{Written}
+use Rattle.frames.specs.Frame.{Framed}
 use Rattle.plain.specs.Answer.{Answer, accepted, no_offer, refused}
 use Rattle.refusals.specs.Refusals.{refusal_number, refusal_place}
 use Rattle.state.specs.declared.ledger.Ledger.{Ledger}
-use Rattle.state.specs.declared.load.Taken.{Taken}
+use Rattle.state.specs.Loading.{Taken}
 use Rattle.sums.specs.Seq.{fill, tabulate}
 
 -- how many numbers there are
@@ -42,45 +42,45 @@ length_or n no_offer = 0
 
 -- of a writer: 0 and how many bytes it wrote, or the refusal's number and place
 abbrev pub written_number : Written → ℕ
-written_number (Written.Bytes n) = 0
-written_number (Written.Refused r) = refusal_number r
+written_number (Ok n) = 0
+written_number (Err r) = refusal_number r
 
 abbrev pub written_place : Written → ℕ
-written_place (Written.Bytes n) = n
-written_place (Written.Refused r) = refusal_place r
+written_place (Ok n) = n
+written_place (Err r) = refusal_place r
 
 -- of the frame at an offset: 0, where it ends, and its kind; the refusal's number and place; or 255 where no byte is left
 abbrev pub frame_number : Framed → ℕ
-frame_number (Framed.Whole kind start end) = 0
-frame_number (Framed.Refused r) = refusal_number r
-frame_number Framed.End = 255
+frame_number (Ok (Some span)) = 0
+frame_number (Err r) = refusal_number r
+frame_number (Ok None) = 255
 
 abbrev pub frame_place : Framed → ℕ
-frame_place (Framed.Whole kind start end) = end
-frame_place (Framed.Refused r) = refusal_place r
-frame_place Framed.End = 0
+frame_place (Ok (Some span)) = span.end
+frame_place (Err r) = refusal_place r
+frame_place (Ok None) = 0
 
 abbrev pub frame_kind : Framed → ℕ
-frame_kind (Framed.Whole kind start end) = kind
-frame_kind (Framed.Refused r) = 0
-frame_kind Framed.End = 0
+frame_kind (Ok (Some span)) = span.kind
+frame_kind (Err r) = 0
+frame_kind (Ok None) = 0
 
 -- of a frame of the sheet: 0 and where the next begins, the refusal's number and place, or 255 where nothing is left to load
 abbrev pub load_number : Taken → ℕ
-load_number (Taken.Next end) = 0
-load_number (Taken.Refused r) = refusal_number r
-load_number Taken.Complete = 255
+load_number (Ok (Some end)) = 0
+load_number (Err r) = refusal_number r
+load_number (Ok None) = 255
 
 abbrev pub load_place : Taken → ℕ
-load_place (Taken.Next end) = end
-load_place (Taken.Refused r) = refusal_place r
-load_place Taken.Complete = 0
+load_place (Ok (Some end)) = end
+load_place (Err r) = refusal_place r
+load_place (Ok None) = 0
 
 -- a frame was taken
 abbrev pub is_taken : Taken → Bool
-is_taken (Taken.Next end) = true
-is_taken (Taken.Refused r) = false
-is_taken Taken.Complete = false
+is_taken (Ok (Some end)) = true
+is_taken (Err r) = false
+is_taken (Ok None) = false
 
 -- the number is returned; the place, and a value where there is one, go to the first two places of a lent slice, as far as it goes.
 -- That slice is the answer and no buffer that refusal 16 speaks of: who lends fewer than two places forgoes the rest

@@ -15,14 +15,14 @@ use Rattle.plain.specs.Offers.{Offer, lent_of, offer_needs}
 use Rattle.plain.specs.Plain.{lent_answer}
 use Rattle.plain.specs.Report.{Query, work_needs}
 use Rattle.readings.specs.Reading.{lent_to, work_lengths}
-use Rattle.refusals.specs.declared.Checked.{Checked}
+use Rattle.refusals.specs.Refusals.{Checked}
 use Rattle.rugxeni.specs.Boundary.{LoadCall, OfferCall, ReadCall, ReportCall, WriteCall}
 use Rattle.rugxeni.specs.Numbers.{Said, frame_kind, frame_number, frame_place, ledger_in, size}
 use Rattle.settlement.specs.Tables.{Buffers}
 use Rattle.sheets.specs.Sheet.{Sheet}
 use Rattle.state.specs.Lengths.{least_lengths}
 use Rattle.state.specs.State.{Kept, complete, kept, lengths_of, sheet_of}
-use Rattle.state.specs.declared.load.Taken.{Taken}
+use Rattle.state.specs.Loading.{Taken}
 use Rattle.sums.specs.Seq.{All}
 use Rattle.sums.specs.Test.{pick}
 

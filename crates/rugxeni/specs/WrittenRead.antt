@@ -5,7 +5,7 @@ use Rattle.encoding.specs.Body.{balances_body, block_body, frame_bytes, header_b
 use Rattle.encoding.specs.OneWriting.{Kind, Reads, balances_kind, block_kind, header_kind, transaction_kind, writing}
 use Rattle.encoding.specs.Verdict.{balances_verdict, block_verdict, header_verdict, transaction_verdict}
 use Rattle.frames.specs.declared.step.Loading.{Loading}
-use Rattle.refusals.specs.declared.Checked.{Checked}
+use Rattle.refusals.specs.Refusals.{Checked}
 use Rattle.rugxeni.specs.Boundary.{WriteCall, block_with, counts_with, cut_with, header_with}
 use Rattle.rugxeni.specs.Numbers.{ledger_in}
 use Rattle.transactions_write.specs.Values.{Lists, lists_agree, transaction_with}

@@ -6,7 +6,8 @@ ghost use Rattle.settlement.specs.Tables.{buffers};
 ghost use Rattle.state.specs.State.{kept};
 
 use crate::numbers::ledger_in;
-use crate::replies::{say_reading, say_short};
+use crate::reading::say_reading;
+use crate::replies::say_short;
 use readings::accounts::accounts;
 
 // The free and the held amount of every account.
@@ -51,5 +52,5 @@ pub extern "C" fn rugxeni_accounts(
         free,
         held,
     );
-    say_reading(answer, 0, told)
+    say_reading(answer, told)
 }

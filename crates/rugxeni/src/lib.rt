@@ -8,6 +8,7 @@ pub mod loading;
 pub mod log;
 mod numbers;
 pub mod offering;
+mod reading;
 pub mod registers;
 mod replies;
 pub mod reporting;

@@ -6,7 +6,8 @@ ghost use Rattle.settlement.specs.Tables.{buffers};
 ghost use Rattle.state.specs.State.{kept};
 
 use crate::numbers::ledger_in;
-use crate::replies::{say_reading, say_short};
+use crate::reading::say_number;
+use crate::replies::say_short;
 use readings::log::log;
 
 // The global log, as instances and sequence numbers; its length is the second number told.
@@ -34,6 +35,5 @@ pub extern "C" fn rugxeni_log(
         return say_short(told);
     }
     let done = log(ledger_in(numbers), ranks, instances, sequences);
-    let answer = done.answer;
-    say_reading(answer, done.value, told)
+    say_number(done, told)
 }

@@ -4,6 +4,7 @@ ghost use Rattle.rugxeni.specs.Numbers.{ledger_in, numbers_of};
 ghost use Rattle.sums.specs.Seq.{fill};
 ghost use Rattle.sums.specs.Test.{pick};
 
+use fields::put;
 use frames::step::Loading;
 use ordering::count_at;
 use state::ledger::Ledger;
@@ -12,13 +13,7 @@ use state::ledger::Ledger;
 pub fn number_at(numbers: &[u16], i: usize) -> u16
     ensures { result ≡ get_or numbers.now i 0 }
 {
-    if i < numbers.len() { numbers[i] } else { 0 }
-}
-
-fn byte_of(n: u16) -> u8
-    ensures { result ≡ min n 255 }
-{
-    if n < 256 { n as u8 } else { 255 }
+    numbers.get(i).copied().unwrap_or(0)
 }
 
 fn heights_in(numbers: &[u16]) -> [u16; 16]
@@ -40,7 +35,7 @@ pub fn ledger_in(numbers: &[u16]) -> Ledger
             a: number_at(numbers, 1),
             g: number_at(numbers, 2),
             t: number_at(numbers, 3),
-            stage: byte_of(number_at(numbers, 4)),
+            stage: number_at(numbers, 4).min(255) as u8,
             loaded: number_at(numbers, 5),
         },
         heights: heights_in(numbers),
@@ -52,33 +47,14 @@ fn number_of(ledger: Ledger, i: u16) -> u16
     ensures { result ≡ get_or (numbers_of ledger) i 0 }
 {
     let loading = ledger.loading;
-    if i == 0 {
-        return loading.m;
-    }
-    if i == 1 {
-        return loading.a;
-    }
-    if i == 2 {
-        return loading.g;
-    }
-    if i == 3 {
-        return loading.t;
-    }
-    if i == 4 {
-        return loading.stage as u16;
-    }
-    if i == 5 {
-        return loading.loaded;
-    }
-    let heights = ledger.heights;
-    count_at(heights, i - 6)
-}
-
-fn put_number(numbers: &mut [u16], i: usize, v: u16)
-    ensures { numbers.new ≡ set numbers.old i v }
-{
-    if i < numbers.len() {
-        numbers[i] = v;
+    match i {
+        0 => loading.m,
+        1 => loading.a,
+        2 => loading.g,
+        3 => loading.t,
+        4 => loading.stage as u16,
+        5 => loading.loaded,
+        _ => count_at(ledger.heights, i - 6),
     }
 }
 
@@ -86,7 +62,7 @@ fn write_ledger(numbers: &mut [u16], ledger: Ledger)
     ensures { numbers.new ≡ fill (numbers_of ledger) numbers.old }
 {
     for i in 0..22u16 {
-        put_number(numbers, i as usize, number_of(ledger, i));
+        put(numbers, i as usize, number_of(ledger, i));
     }
 }
 

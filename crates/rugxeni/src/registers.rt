@@ -6,7 +6,8 @@ ghost use Rattle.settlement.specs.Tables.{buffers};
 ghost use Rattle.state.specs.State.{kept};
 
 use crate::numbers::ledger_in;
-use crate::replies::{say_reading, say_short};
+use crate::reading::say_reading;
+use crate::replies::say_short;
 use readings::registers::registers;
 
 // The registers.
@@ -49,5 +50,5 @@ pub extern "C" fn rugxeni_registers(
         order,
         values,
     );
-    say_reading(answer, 0, told)
+    say_reading(answer, told)
 }

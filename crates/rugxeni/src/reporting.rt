@@ -3,7 +3,7 @@ ghost use Rattle.rugxeni.specs.Boundary.{ReportCall};
 ghost use Rattle.settlement.specs.Tables.{buffers};
 ghost use Rattle.state.specs.State.{kept};
 
-use crate::replies::say_text;
+use crate::replies::say_length;
 use report::report::report_run;
 
 // What `readrun` prints of a run, written to the front of `out`. Returns 0, and in `told` the text's length; or 16, and the
@@ -38,6 +38,5 @@ pub extern "C" fn rugxeni_report(
     let done = report_run(
         run, sheet, ranks, cuts, cites, good, counts, table, order, out,
     );
-    let answer = done.answer;
-    say_text(answer, done.length, told)
+    say_length(done, told)
 }

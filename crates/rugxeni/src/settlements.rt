@@ -6,7 +6,8 @@ ghost use Rattle.settlement.specs.Tables.{buffers};
 ghost use Rattle.state.specs.State.{kept};
 
 use crate::numbers::ledger_in;
-use crate::replies::{say_reading, say_short};
+use crate::reading::say_reading;
+use crate::replies::say_short;
 use readings::settlements::settlements;
 
 // The settlement of every transaction: 0 open, 1 paid, 2 returned.
@@ -49,5 +50,5 @@ pub extern "C" fn rugxeni_settlements(
         order,
         statuses,
     );
-    say_reading(answer, 0, told)
+    say_reading(answer, told)
 }

@@ -6,7 +6,8 @@ ghost use Rattle.settlement.specs.Tables.{buffers};
 ghost use Rattle.state.specs.State.{kept};
 
 use crate::numbers::ledger_in;
-use crate::replies::{say_reading, say_short};
+use crate::reading::say_number;
+use crate::replies::say_short;
 use readings::share::share;
 
 // The share as the second number told: settled transactions in thousandths of all, to the nearest and a tie to the even figure; 1000 where there are none.
@@ -47,6 +48,5 @@ pub extern "C" fn rugxeni_share(
         table,
         order,
     );
-    let answer = done.answer;
-    say_reading(answer, done.value, told)
+    say_number(done, told)
 }

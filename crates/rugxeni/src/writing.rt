@@ -9,7 +9,7 @@ ghost use Rattle.transactions_write.specs.Values.{lists, lists_agree, transactio
 
 use crate::numbers::ledger_in;
 use crate::offering::cut_of;
-use crate::replies::{say_short, say_written};
+use crate::replies::{say_length, say_short};
 use frames::block::Block;
 use frames::header::Header;
 use frames_write::balances::write_balances;
@@ -44,7 +44,7 @@ pub extern "C" fn rugxeni_write_header(
     }
     let ledger = ledger_in(numbers);
     let done = write_header(out, ledger.loading, Header { m, a, g, t });
-    say_written(done, told)
+    say_length(done, told)
 }
 
 // The starting balances, one for each account.
@@ -70,7 +70,7 @@ pub extern "C" fn rugxeni_write_balances(
     }
     let ledger = ledger_in(numbers);
     let done = write_balances(out, ledger.loading, balances);
-    say_written(done, told)
+    say_length(done, told)
 }
 
 // A transaction: kind 0 payment or 1 contract; d debits and c credits, each as accounts and amounts; o operations, as codes, registers and values.
@@ -125,7 +125,7 @@ pub extern "C" fn rugxeni_write_transaction(
         registers,
         values,
     );
-    say_written(done, told)
+    say_length(done, told)
 }
 
 // A block with `count` citations, the cut as its first sixteen entries.
@@ -162,5 +162,5 @@ pub extern "C" fn rugxeni_write_block(
         cut: cut_of(cut),
     };
     let done = write_block(out, ledger.loading, block, count, citations);
-    say_written(done, told)
+    say_length(done, told)
 }

@@ -5,6 +5,7 @@ use borrow.Author.Tests.{eq-eqb, eqb-false, eqb-true, ne_eqb}
 use lib.Dec.{eqb}
 use lib.ListN.{get_or, length, length-set, set, take}
 use lib.Seq.{get_or-set_other, get_or-set_same, take-suc}
+use Rattle.std.proofs.lemmas.List.{take_all}
 use mathlib.Core.Bool.{Bool, false, true}
 use mathlib.Core.List.{List, [], ◌++◌, ◌∷◌, append-nil, foldl, foldl-append, map}
 use mathlib.Core.Path.{◌∙◌, ◌≡◌, ap, ap₂, refl, subst, sym}
@@ -166,7 +167,8 @@ log-more S Q s l i h =
     let more : map ref_in (take (i + 1) l) ≡ map ref_in (take i l) ++ (ref_in (get_or l i 0) ∷ []) =
     ap (map ref_in) (ap (λ (k : ℕ). take k l) (add-one i) ∙ take-suc l i 0 h) ∙ map-append ref_in (take i l) (get_or l i 0 ∷ []) in
     sym (ap (λ (m : List Ref). foldl (step S) s (log_events Q m)) more
-    ∙ ap (foldl (step S) s) (log_events_snoc Q (map ref_in (take i l)) (ref_in (get_or l i 0))) ∙ foldl-append (step S) s (log_events Q (map ref_in (take i l))) (block_events Q (ref_in (get_or l i 0))))
+    ∙ ap (foldl (step S) s) (log_events_snoc Q (map ref_in (take i l)) (ref_in (get_or l i 0))) ∙ foldl-append (step S) s (log_events Q (map ref_in (take i l)))
+    (block_events Q (ref_in (get_or l i 0))))
 
 -- the same on cells
 module _ (z : Sizes) (c₀ t₀ : List ℕ) (S : Sheet) (s : Book) (c t r : List ℕ) where
@@ -176,7 +178,8 @@ module _ (z : Sizes) (c₀ t₀ : List ℕ) (S : Sheet) (s : Book) (c t r : List
   pub block_more : (f : ℕ → Event) (n : ℕ) → Holds z c₀ t₀ (step S (run_all S s (tabulate n f)) (f n)) c t r → Holds z c₀ t₀ (run_all S s (tabulate (n + 1) f)) c t r
   block_more f n k = subst (λ (w : Book). Holds z c₀ t₀ w c t r) (run_more S s f n) k
 
-  pub block_end : (Q : Rows) (b n : ℕ) → n ≤ 32 → 32 ≤ n → Holds z c₀ t₀ (run_all S s (tabulate n (λ q. event_at Q (b / 128) (b % 128 * 32 + q)))) c t r → Holds z c₀ t₀ (run_all S s (block_events Q (ref_in b))) c t r
+  pub block_end : (Q : Rows) (b n : ℕ) → n ≤ 32 → 32 ≤ n → Holds z c₀ t₀ (run_all S s (tabulate n (λ q. event_at Q (b / 128) (b % 128 * 32 + q)))) c t r
+      → Holds z c₀ t₀ (run_all S s (block_events Q (ref_in b))) c t r
   unfolding block_events
   block_end Q b n l u k = subst (λ (m : ℕ). Holds z c₀ t₀ (run_all S s (tabulate m (λ q. event_at Q (b / 128) (b % 128 * 32 + q)))) c t r) (omega arith) k
 
@@ -187,8 +190,9 @@ module _ (z : Sizes) (c₀ t₀ : List ℕ) (S : Sheet) (s : Book) (c t r : List
       → Holds z c₀ t₀ (run_all S s (log_events Q (map ref_in (take (i + 1) l)))) c t r
   log_turn Q l i h k = subst (λ (w : Book). Holds z c₀ t₀ w c t r) (log-more S Q s l i h) k
 
-  pub log_end : (Q : Rows) (l : List ℕ) (i n : ℕ) → i ≤ n → n ≤ i → Holds z c₀ t₀ (run_all S s (log_events Q (map ref_in (take i l)))) c t r → Holds z c₀ t₀ (run_all S s (log_events Q (map ref_in (take n l)))) c t r
-  log_end Q l i n h u k = subst (λ (m : ℕ). Holds z c₀ t₀ (run_all S s (log_events Q (map ref_in (take m l)))) c t r) {x = i} {y = n} (omega arith) k
+  pub log_end : (Q : Rows) (l : List ℕ) (i : ℕ) → length l ≤ i → Holds z c₀ t₀ (run_all S s (log_events Q (map ref_in (take i l)))) c t r
+      → Holds z c₀ t₀ (run_all S s (log_events Q (map ref_in l))) c t r
+  log_end Q l i h k = subst (λ (m : List ℕ). Holds z c₀ t₀ (run_all S s (log_events Q (map ref_in m))) c t r) (take_all i l h) k
 
 -- the citations of a log do not hang on ranks
 pub events_any : (ranks ranks' cites good : List ℕ) (l : List Ref) → log_events (rows_in ranks cites good) l ≡ log_events (rows_in ranks' cites good) l

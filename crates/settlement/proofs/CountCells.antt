@@ -3,21 +3,24 @@
 use Prim.Native.Nat.{◌*◌, ◌+◌, ◌<◌, ◌≤◌, min, suc, zero, ℕ}
 use borrow.Author.Tests.{eqb-false, eqb-true, le-ltb, lt-ltb, ltb-false, ltb-true, ne_eqb}
 use lib.Dec.{eqb, ltb}
-use lib.ListN.{get_or, length, length-set, set}
-use lib.Seq.{ext_get_or, get_or-set_other, get_or-set_same, set_out}
-use mathlib.Core.Bool.{Bool, false, true}
-use mathlib.Core.List.{List}
+use lib.ListN.{drop, get_or, length, length-set, length-take, replicate, set, take}
+use lib.Seq.{ext_get_or, get_or-set_other, get_or-set_same}
+use mathlib.Core.Bool.{Bool, false, not, true}
+use mathlib.Core.List.{List, ◌++◌}
 use mathlib.Core.Logic.{inr}
 use mathlib.Core.Path.{◌∙◌, ◌≡◌, ap, ap₂, refl, sym}
 use native.Mathlib.Decide.{dec_lt}
 use native.Mathlib.Nat.{add-zero, zero-add}
+use native.Mathlib.Numerals.{add-one}
+use Rattle.std.specs.Int.{from_bool}
+use Rattle.std.proofs.lemmas.List.Edits.{fill_more, fill_none}
 use native.Mathlib.Omega.{arith}
 use Rattle.ordering.specs.Table.{count_in}
 use Rattle.settlement.specs.Cells.{rows_in}
 use Rattle.settlement.specs.Inner.{Counts, Tally, add_at, count_at, count_one, count_row, count_rows, most, no_tally, with_event, with_row, with_rows}
 use Rattle.settlement.specs.Settlement.{is_cite, is_fail}
 use Rattle.settlement.specs.View.{Event, event_at}
-use Rattle.sums.proofs.LoopLaws.{fold_length, written_turn}
+use Rattle.sums.proofs.LoopLaws.{fold_length, written_none, written_turn}
 use Rattle.sums.proofs.SeqLaws.{length-written, written_at, written_out}
 use Rattle.sums.proofs.SumLaws.{sum_suc, sum_zero}
 use Rattle.sums.proofs.TestLaws.{by-pick, given_false, given_true, pick-false, pick_true}
@@ -52,15 +55,21 @@ front_is l l' n f room e here past =
     go i (yes u) = here i u ∙ sym (front_at l n f i 0 u room)
     go i (no u) = past i (omega arith) ∙ sym (front-past l n f i 0 (omega arith))
 
+-- the front filled with one value
+pub front_filled : (l : List ℕ) (v n : ℕ) → n ≤ length l → replicate n v ++ drop n l ≡ written l 0 n (λ k. v)
+front_filled l v zero h = sym (fill_none l v) ∙ written_none l 0 (λ k. v)
+front_filled l v (suc n) h =
+    let e : replicate (n + 1) v ++ drop (n + 1) l ≡ written l 0 (n + 1) (λ k. v) =
+    sym (fill_more n v l (omega arith)) ∙ front_turn l n (λ k. v) _ v (front_filled l v n (omega arith)) refl in
+    rw add-one at e
+
+-- as `fill` leaves it
+pub filled_so : (l front : List ℕ) (v k n : ℕ) → k ≡ n → n ≤ length l → front ≡ replicate (length (take k l)) v → front ++ drop k l ≡ written l 0 n (λ i. v)
+filled_so l front v k n e h q =
+    let len : length (take k l) ≡ n = omega (arith, length-take k l) in
+    ap₂ (λ (a b : List ℕ). a ++ b) (q ∙ ap (λ (i : ℕ). replicate i v) len) (ap (λ (i : ℕ). drop i l) e) ∙ front_filled l v n h
+
 -- ---- cells
-
-pub add_in : (c : List ℕ) (i n v : ℕ) → v ≡ min (get_or c i 0 + n) most → set c i v ≡ add_at c i n
-unfolding add_at
-add_in c i n v e = ap (set c i) e
-
-pub add_out : (c : List ℕ) (i n : ℕ) → length c ≤ i → c ≡ add_at c i n
-unfolding add_at
-add_out c i n h = sym (set_out c i _ h)
 
 pub add_length : (c : List ℕ) (i n : ℕ) → length (add_at c i n) ≡ length c
 unfolding add_at
@@ -70,9 +79,13 @@ pub count-length : (c : List ℕ) (x f : ℕ) → length (count_one c x f) ≡ l
 unfolding count_one
 count-length c x f = add_length _ _ _ ∙ add_length _ _ _
 
-pub count_of : (c a b : List ℕ) (x f : ℕ) (g : Bool) → f ≡ flip g → a ≡ add_at c (2 * x) 1 → b ≡ add_at a (2 * x + 1) f → b ≡ count_one c x (flip g)
+pub counted_one : (c a b : List ℕ) (x f : ℕ) (g : Bool) → f ≡ from_bool (not g) → a ≡ add_at c (2 * x) 1 → b ≡ add_at a (2 * x + 1) f → b ≡ count_one c x (flip g)
 unfolding count_one
-count_of c a b x f g e p q = q ∙ ap₂ (λ (l : List ℕ) (n : ℕ). add_at l (2 * x + 1) n) p e
+counted_one c a b x f g e p q = q ∙ ap₂ (λ (l : List ℕ) (n : ℕ). add_at l (2 * x + 1) n) p (e ∙ failed g)
+  where
+    failed : (g : Bool) → from_bool (not g) ≡ flip g
+    failed true = refl
+    failed false = refl
 
 cell_same : (c : List ℕ) (i n : ℕ) → i < length c → get_or (add_at c i n) i 0 ≡ min (get_or c i 0 + n) most
 unfolding add_at
@@ -178,7 +191,8 @@ module _ (ranks cites' good : List ℕ) (j p : ℕ) where
 module _ (ranks cites' good : List ℕ) (t : ℕ) (o : List ℕ) where
   counts-row : (j n : ℕ) (T : Tally) (c : List ℕ) → 2 * t ≤ length c → Counts t o T c → Counts t o (with_row n (event_at (rows_in ranks cites' good) j) T) (count_row t cites' good j n c)
   unfolding count_row fold_to
-  counts-row j zero T c room k = counts_ext t o T _ c (λ y l. omega (arith, sum_zero (λ p. is_cite y (event_at (rows_in ranks cites' good) j p)))) (λ y l. omega (arith, sum_zero (λ p. is_fail y (event_at (rows_in ranks cites' good) j p)))) k
+  counts-row j zero T c room k = counts_ext t o T _ c (λ y l. omega (arith, sum_zero (λ p. is_cite y (event_at (rows_in ranks cites' good) j p))))
+      (λ y l. omega (arith, sum_zero (λ p. is_fail y (event_at (rows_in ranks cites' good) j p)))) k
   counts-row j (suc n) T c room k =
       counts_ext t o (with_event (event_at (rows_in ranks cites' good) j n) (with_row n (event_at (rows_in ranks cites' good) j) T)) _ _
       (λ y l. omega (arith, sum_suc n (λ p. is_cite y (event_at (rows_in ranks cites' good) j p)))) (λ y l. omega (arith, sum_suc n (λ p. is_fail y (event_at (rows_in ranks cites' good) j p))))

@@ -11,6 +11,7 @@ use mathlib.Core.Logic.{◌≢◌}
 use mathlib.Core.Path.{◌∙◌, ◌≡◌, ap, ap₂, refl, sym}
 use native.Mathlib.Nat.{not-suc-le-zero}
 use native.Mathlib.Omega.{arith}
+use Rattle.settlement.specs.Books.{paid, pending, returned}
 use Rattle.settlement.specs.Inner.{pay_at, pay_to, payment_of}
 use Rattle.settlement.specs.Tables.{code_of}
 use Rattle.sheets.specs.Parts.{is_contract, parts}
@@ -21,17 +22,17 @@ use Rattle.sums.specs.Fold.{fold_to}
 use Rattle.sums.specs.Test.{pick}
 
 module _ (f c p : ℕ) where
-  pub pay-returned : (f ≡ 0 → ⊥) → 2 ≡ code_of (payment_of f c p)
+  pub pay-returned : (f ≡ 0 → ⊥) → returned ≡ payment_of f c p
   unfolding payment_of
-  pay-returned h = sym (ap code_of (pick-false _ _ _ (ne_eqb f 0 h)))
+  pay-returned h = sym (pick-false _ _ _ (ne_eqb f 0 h))
 
-  pub pay-paid : f ≡ 0 → c ≡ p → 1 ≡ code_of (payment_of f c p)
+  pub pay-paid : f ≡ 0 → c ≡ p → paid ≡ payment_of f c p
   unfolding payment_of
-  pay-paid h e = sym (ap code_of (pick_true _ _ _ (eq-eqb f 0 h) ∙ pick_true _ _ _ (eq-eqb c p e)))
+  pay-paid h e = sym (pick_true _ _ _ (eq-eqb f 0 h) ∙ pick_true _ _ _ (eq-eqb c p e))
 
-  pub pay_open : f ≡ 0 → (c ≡ p → ⊥) → 0 ≡ code_of (payment_of f c p)
+  pub pay_open : f ≡ 0 → (c ≡ p → ⊥) → pending ≡ payment_of f c p
   unfolding payment_of
-  pay_open h e = sym (ap code_of (pick_true _ _ _ (eq-eqb f 0 h) ∙ pick-false _ _ _ (ne_eqb c p e)))
+  pay_open h e = sym (pick_true _ _ _ (eq-eqb f 0 h) ∙ pick-false _ _ _ (ne_eqb c p e))
 
 module _ (S : Sheet) (counts : List ℕ) (x : ℕ) (before : List ℕ) (u : Bool) (eu : u ≡ is_contract S x) where
   pub pay_not : u ≡ true → before ≡ pay_at S counts x before
@@ -80,7 +81,8 @@ module _ (S : Sheet) (counts : List ℕ) where
   pay_to_at zero x t l room = absurd (not-suc-le-zero l)
   pay_to_at (suc n) x t l room = go (eqb x n) refl (λ h. pay_to_at n x t h (omega arith))
     where
-      go : (b : Bool) → eqb x n ≡ b → (x < n → get_or (pay_to S counts n t) x 0 ≡ pick (is_contract S x) (get_or t x 0) (paid_as x)) → get_or (pay_at S counts n (pay_to S counts n t)) x 0 ≡ pick (is_contract S x) (get_or t x 0) (paid_as x)
+      go : (b : Bool) → eqb x n ≡ b → (x < n → get_or (pay_to S counts n t) x 0 ≡ pick (is_contract S x) (get_or t x 0) (paid_as x)) → get_or
+          (pay_at S counts n (pay_to S counts n t)) x 0 ≡ pick (is_contract S x) (get_or t x 0) (paid_as x)
       go true e ih =
           let d : x ≡ n = eqb-true x n e in
           rw d (pay_here n (pay_to S counts n t) (omega (arith, pay_to-length n t)) ∙ ap (λ (k : ℕ). pick (is_contract S n) k (paid_as n)) (pay_to-past n n t (omega arith)))

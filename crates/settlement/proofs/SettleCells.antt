@@ -28,6 +28,7 @@ use Rattle.settlement.proofs.PayCells.{pay_to_at, pay_to-length, pay_to-past}
 use Rattle.sheets.proofs.SheetCells.{sheet-count, sheet-m}
 use Rattle.sheets.specs.Parts.{is_contract, parts}
 use Rattle.sheets.specs.Sheet.{sheet_from, sheet_in, tx_count}
+use Rattle.sums.proofs.FilledLaws.{filled_end}
 use Rattle.sums.proofs.LoopLaws.{sum_most}
 use Rattle.sums.proofs.SeqLaws.{fill-room, length-written}
 use Rattle.sums.proofs.TestLaws.{flip-le, given-le, pick-false, pick_true}
@@ -41,6 +42,10 @@ use Rattle.sheets.specs.declared.sheet.Sizes.{Sizes}
 -- past sixteen there is no instance
 pub whole-past : (v : List ℕ) → length v ≡ 16 → (i : ℕ) → 16 ≤ i → whole_of (count_in v) i ≡ 0
 whole-past v e i h = omega (arith, get_or-eq_default v 0 {n = i} (omega arith))
+
+-- an array of sixteen whose entries are the blocks of those of v
+pub whole_is : (v r : List ℕ) → length v ≡ 16 → length r ≡ 16 → ((i : ℕ) → i < 16 → get_or r i 0 ≡ get_or v i 0 / 32) → count_in r ≡ whole_of (count_in v)
+whole_is v r ev er h = filled_end 16 (whole_of (count_in v)) r 16 (omega arith) (whole-past v ev) (record { size = er; done = h })
 
 -- ---- the contracts of a view
 
@@ -87,7 +92,8 @@ module _ (b : List ℕ) (z : Sizes) (ranks cites' good : List ℕ) (v full : Lis
       subst (λ (q : List Event). Holds z c₀ t₀ (run_all (sheet_in b z) (empty_book (sheet_in b z)) q) counts table cells)
       (events_any [] ranks cites' good l ∙ ap (log_events (rows_in ranks cites' good)) (el ∙ log_is)) k
 
-  pub log-logged : (d d' : List ℕ) → d' ≡ fill (map block_id (global_log z.m (rank_in ranks) (count_in full))) d → d' ≡ fill (map block_id (view_log (sheet_in b z) (rows_in ranks cites' good) (count_in v))) d
+  pub log-logged : (d d' : List ℕ) → d' ≡ fill (map block_id (global_log z.m (rank_in ranks) (count_in full))) d → d' ≡ fill
+      (map block_id (view_log (sheet_in b z) (rows_in ranks cites' good) (count_in v))) d
   log-logged d d' e = e ∙ ap (λ (l : List Ref). fill (map block_id l) d) log_is
 
 -- ---- all statuses

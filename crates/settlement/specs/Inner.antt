@@ -1,4 +1,4 @@
--- Proof tools that only the contracts of inner functions cite: no reader of the rules needs them.
+-- Proof tools that only the contracts of inner functions cite, but for `as_ruled`: no reader of the rules needs them.
 -- Assumes nothing.
 use Rattle.std.specs.Prelude.{◌*◌, ◌+◌, ◌<◌, ◌≤◌, min, ℕ, eqb, ltb, get_or, length, set, take, Bool, List, ◌≡◌}
 use Rattle.ordering.specs.Table.{count_in}
@@ -6,6 +6,7 @@ use Rattle.settlement.specs.Cells.{cell_in, flag_in}
 use Rattle.settlement.specs.Books.{Book, Status, paid, pending, returned, settled}
 use Rattle.settlement.specs.Settlement.{is_cite, is_fail}
 use Rattle.settlement.specs.Tables.{code_of}
+use Rattle.settlement.specs.declared.status.Status as declared
 use Rattle.settlement.specs.View.{Event, Rows, View, event_at}
 use Rattle.sheets.specs.Parts.{is_contract, parts}
 use Rattle.sheets.specs.Sheet.{Sheet}
@@ -86,6 +87,14 @@ pub record Holds (z : Sizes) (c₀ t₀ : List ℕ) (s : Book) (counts table cel
 -- the step for a contract, once its citation is counted
 unfoldable pub settled_if : Sheet → Book → ℕ → Book
 settled_if S s x = pick (eqb (s.seen x) (parts S x)) (settled S s x) s
+
+-- ---- statuses
+
+-- the rules' status for the code's
+abbrev pub as_ruled : declared.Status → Status
+as_ruled declared.Status.Open = pending
+as_ruled declared.Status.Paid = paid
+as_ruled declared.Status.Returned = returned
 
 -- ---- payments, from counts
 

@@ -1,5 +1,5 @@
 // Contracts, run in log order (document 01, "Settlement in a view").
-ghost use Rattle.std.specs.Prelude.{◌*◌, ◌<◌, ◌≤◌, ℕ, length, take, List, [], map, ◌≡◌};
+ghost use Rattle.std.specs.Prelude.{◌*◌, ◌<◌, ◌≤◌, ℕ, length, List, [], map, ◌≡◌};
 ghost use Rattle.ordering.specs.Table.{Ordered, block_id, count_in, rank_in, ref_in};
 ghost use Rattle.settlement.specs.Cells.{rows_in};
 ghost use Rattle.settlement.specs.Books.{Book, counted, run_all};
@@ -8,10 +8,11 @@ ghost use Rattle.settlement.specs.Settlement.{contracts};
 ghost use Rattle.settlement.specs.Tables.{whole_of};
 ghost use Rattle.settlement.specs.View.{block_events, log_events, view_log};
 ghost use Rattle.sheets.specs.Sheet.{sheet_in};
-ghost use Rattle.sums.specs.Seq.{fill, written};
+ghost use Rattle.sums.specs.Seq.{fill};
 
-use crate::counts::{clear, count_of, count_one};
+use crate::counts::{count_of, count_one};
 use crate::rows::{cite_at, good_at};
+use crate::status::Status;
 use sheets::operations::run;
 use sheets::parts::parts_of;
 use sheets::sheet::{Sizes, is_contract};
@@ -35,15 +36,15 @@ fn settle_one(
         return registers;
     }
     if count_of(counts, 2 * at + 1) != 0 {
-        table[at] = 2;
+        table[at] = u8::from(Status::Returned);
         return registers;
     }
     let ran = run(sheet, z, x, registers);
     if !ran.passes {
-        table[at] = 2;
+        table[at] = u8::from(Status::Returned);
         return registers;
     }
-    table[at] = 1;
+    table[at] = u8::from(Status::Paid);
     ran.registers
 }
 
@@ -101,55 +102,39 @@ fn run_block(
     cells
 }
 
-// The first n blocks of a list of ids.
+// The blocks of a list of ids.
 fn run_log(
     sheet: &[u8],
     cites: &[u16],
     good: &[u8],
     z: Sizes,
     order: &[u16],
-    n: usize,
     counts: &mut [u32],
     table: &mut [u8],
     registers: [u32; 64],
 ) -> [u32; 64]
-    requires { (2 * z.t ≤ length counts.old) × (z.t ≤ length table.old) × (n ≤ length order.now) }
+    requires { (2 * z.t ≤ length counts.old) × (z.t ≤ length table.old) }
     ensures { (c₀ t₀ : List ℕ) (s : Book)
         → Holds z c₀ t₀ s counts.old table.old registers
         → Holds z c₀ t₀
-        (run_all (sheet_in sheet.now z) s (log_events (rows_in [] cites.now good.now) (map ref_in (take n order.now))))
+        (run_all (sheet_in sheet.now z) s (log_events (rows_in [] cites.now good.now) (map ref_in order.now)))
         counts.new
         table.new
         result }
 {
     let mut cells = registers;
-    for i in 0..n {
-        let next = run_block(sheet, cites, good, z, order[i], counts, table, cells);
+    for b in order {
+        let next = run_block(sheet, cites, good, z, *b, counts, table, cells);
         cells = next;
     }
     cells
-}
-
-// Sets the statuses of t transactions to open.
-fn pend_all(table: &mut [u8], t: u16)
-    requires { t ≤ length table.old }
-    ensures { table.new ≡ written table.old 0 t (λ x. 0) }
-{
-    let n = t as usize;
-    for x in 0..n {
-        table[x] = 0;
-    }
 }
 
 // The whole blocks of a view.
 fn whole(view: [u16; 16]) -> [u16; 16]
     ensures { count_in result ≡ whole_of (count_in view) }
 {
-    let mut full = [0u16; 16];
-    for j in 0..16usize {
-        full[j] = view[j] / 32;
-    }
-    full
+    view.map(|places| places / 32)
 }
 
 // The contracts of a view: their statuses in the table, and the registers.
@@ -182,8 +167,18 @@ pub fn settle_contracts(
         (map block_id (view_log (sheet_in sheet.now z) (rows_in ranks.now cites.now good.now) (count_in view)))
         order.old) }
 {
-    clear(counts, z.t);
-    pend_all(table, z.t);
+    let t = usize::from(z.t);
+    counts[..2 * t].fill(0);
+    table[..t].fill(0);
     let n = ordering::global_log(z.m, ranks, whole(view), order);
-    run_log(sheet, cites, good, z, order, n, counts, table, [0u32; 64])
+    run_log(
+        sheet,
+        cites,
+        good,
+        z,
+        &order[..n],
+        counts,
+        table,
+        [0u32; 64],
+    )
 }

@@ -1,36 +1,17 @@
 // The table of counts: two cells a transaction, its citations and those that failed.
-ghost use Rattle.std.specs.Prelude.{◌*◌, ◌+◌, ◌≤◌, min, get_or, length, ◌≡◌};
-ghost use Rattle.settlement.specs.Inner.{add_at, count_at, count_one, count_row, count_rows, most};
-ghost use Rattle.sums.specs.Seq.{written};
+ghost use Rattle.std.specs.Prelude.{get_or, ◌≡◌};
+ghost use Rattle.settlement.specs.Inner.{add_at, count_at, count_one, count_row, count_rows};
 ghost use Rattle.sums.specs.Test.{flip};
 
 use crate::rows::{cite_at, good_at};
+use fields::put;
 
-// A sum that stops at 2^32 - 1.
-fn plus(c: u32, n: u32) -> u32
-    ensures { result ≡ min (c + n) most }
-{
-    if n <= 4294967295 - c {
-        c + n
-    } else {
-        4294967295
-    }
-}
-
-// Adds n to cell i, where there is one.
+// Adds n to cell i, where there is one; a sum stops at 2^32 - 1.
+#[tactic(auto, unfolding(crate::specs::Inner::add_at))]
 fn add_at(counts: &mut [u32], i: usize, n: u32)
     ensures { counts.new ≡ add_at counts.old i n }
 {
-    if i < counts.len() {
-        counts[i] = plus(counts[i], n);
-    }
-}
-
-// 1 where a part failed.
-fn failure(good: bool) -> u32
-    ensures { result ≡ flip good }
-{
-    if good { 0 } else { 1 }
+    put(counts, i, count_of(counts, i).saturating_add(n));
 }
 
 // Counts a citation of x.
@@ -39,25 +20,14 @@ pub fn count_one(counts: &mut [u32], x: u16, good: bool)
 {
     let at = 2 * (x as usize);
     add_at(counts, at, 1);
-    add_at(counts, at + 1, failure(good));
+    add_at(counts, at + 1, u32::from(!good));
 }
 
 // Cell i of the counts; 0 where there is none.
 pub fn count_of(counts: &[u32], i: usize) -> u32
     ensures { result ≡ get_or counts.now i 0 }
 {
-    if i < counts.len() { counts[i] } else { 0 }
-}
-
-// Sets the counts of t transactions to 0.
-pub fn clear(counts: &mut [u32], t: u16)
-    requires { 2 * t ≤ length counts.old }
-    ensures { counts.new ≡ written counts.old 0 (2 * t) (λ i. 0) }
-{
-    let n = 2 * (t as usize);
-    for i in 0..n {
-        counts[i] = 0;
-    }
+    counts.get(i).copied().unwrap_or(0)
 }
 
 // Counts the citation at place p of instance j's row. A place with no transaction's number, as 65535, is passed over.

@@ -6,3 +6,4 @@ mod contracts;
 mod counts;
 pub mod rows;
 pub mod settle;
+pub mod status;

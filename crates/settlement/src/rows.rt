@@ -9,7 +9,7 @@ pub fn cite_at(cites: &[u16], j: u16, p: u16) -> u16
     ensures { result ≡ cell_in cites.now j p }
 {
     let at = (j as usize) * 4096 + (p as usize);
-    if at < cites.len() { cites[at] } else { 65535 }
+    cites.get(at).copied().unwrap_or(65535)
 }
 
 // Whether the part booked at place p of instance j's row is good.

@@ -2,13 +2,14 @@
 ghost use Rattle.std.specs.Prelude.{◌*◌, ◌<◌, ◌≤◌, length, take, ◌≡◌};
 ghost use Rattle.ordering.specs.Table.{Ordered, count_in, rank_in};
 ghost use Rattle.settlement.specs.Cells.{rows_in};
-ghost use Rattle.settlement.specs.Inner.{pay_at, pay_to, payment_of};
+ghost use Rattle.settlement.specs.Inner.{as_ruled, pay_at, pay_to, payment_of};
 ghost use Rattle.settlement.specs.Settlement.{contracts};
-ghost use Rattle.settlement.specs.Tables.{Settled, code_in, code_of, buffers, status_in, status_of, whole_of};
+ghost use Rattle.settlement.specs.Tables.{Settled, code_in, buffers, status_in, status_of, whole_of};
 ghost use Rattle.sheets.specs.Sheet.{sheet_in};
 
 use crate::contracts::settle_contracts;
-use crate::counts::{clear, count_of, count_view};
+use crate::counts::{count_of, count_view};
+use crate::status::Status;
 use fields::byte_at;
 use sheets::parts::parts_of;
 use sheets::sheet::{Sizes, is_contract};
@@ -24,14 +25,18 @@ pub fn status_at(table: &[u8], z: Sizes, x: u16) -> u8
     }
 }
 
-// The status of a payment, as a number.
-fn payment_of(failed: u32, cited: u32, parts: u32) -> u8
-    ensures { result ≡ code_of (payment_of failed cited parts) }
+// The status of a payment.
+fn payment_of(failed: u32, cited: u32, parts: u32) -> Status
+    ensures { as_ruled result ≡ payment_of failed cited parts }
 {
     if failed != 0 {
-        return 2;
+        return Status::Returned;
     }
-    if cited == parts { 1 } else { 0 }
+    if cited == parts {
+        Status::Paid
+    } else {
+        Status::Open
+    }
 }
 
 // Writes the status of transaction x if it is a payment.
@@ -41,11 +46,9 @@ fn pay_one(sheet: &[u8], z: Sizes, x: u16, counts: &[u32], table: &mut [u8])
 {
     if !is_contract(sheet, z, x) {
         let at = x as usize;
-        table[at] = payment_of(
-            count_of(counts, 2 * at + 1),
-            count_of(counts, 2 * at),
-            parts_of(sheet, z, x) as u32,
-        );
+        let failed = count_of(counts, 2 * at + 1);
+        let cited = count_of(counts, 2 * at);
+        table[at] = payment_of(failed, cited, parts_of(sheet, z, x) as u32).into();
     }
 }
 
@@ -54,14 +57,14 @@ fn pay_all(sheet: &[u8], z: Sizes, counts: &[u32], table: &mut [u8])
     requires { z.t ≤ length table.old }
     ensures { table.new ≡ pay_to (sheet_in sheet.now z) counts.now z.t table.old }
 {
-    let t = z.t;
-    for x in 0..t {
+    for x in 0..z.t {
         pay_one(sheet, z, x, counts, table);
     }
 }
 
-// Settles a view: the status of every transaction into the table, the view's log into the order, and its registers, which are returned: the first g of 64 cells, of which the others mean nothing.
-// The counts end as the view's tallies. What each buffer has past its own part is as it was.
+// Settles a view: the status of every transaction into the table, the view's log into the order, and its registers, which are
+// returned: the first g of 64 cells, of which the others mean nothing. The counts end as the view's tallies. What each buffer has
+// past its own part is as it was.
 pub fn settle(
     sheet: &[u8],
     ranks: &[u32],
@@ -93,7 +96,7 @@ pub fn settle(
         ).registers) }
 {
     let registers = settle_contracts(sheet, ranks, cites, good, z, view, counts, table, order);
-    clear(counts, z.t);
+    counts[..2 * usize::from(z.t)].fill(0);
     count_view(cites, good, z.m, z.t, view, counts);
     pay_all(sheet, z, counts, table);
     registers

@@ -1,10 +1,14 @@
 -- Operations on the registers: the 64 cells of which the first g are the sheet's.
 -- Assumes nothing.
-use Prim.Native.Nat.{◌+◌, ◌-◌, ◌<◌, ◌≤◌, min, suc, zero, ℕ}
-use borrow.Author.Tests.{eq-eqb, le-leb, lt-leb, ne_eqb}
+use Prim.Native.Nat.{◌+◌, ◌-◌, ◌<◌, ◌≤◌, suc, zero, ℕ}
+use borrow.Author.Tests.{le-leb, lt-leb, ne_eqb}
 use lib.Dec.{eqb, leb}
-use lib.ListN.{get_or-eq_default, drop, get_or, length, length-take, set, take}
-use lib.Seq.{get_or-take, set_out, take-set-le, take-set-lt}
+use lib.ListN.{drop, get_or, length, length-take, set, take}
+use lib.Seq.{set_out, take-set-le, take-set-lt}
+use Rattle.std.specs.Bool.{then_some}
+use Rattle.std.specs.Option.{SomeIff}
+use Rattle.std.specs.Prelude.{Option, None, Some, ◌^◌}
+use Rattle.std.proofs.lemmas.List.{set-get_or}
 use mathlib.Core.Bool.{Bool, false, true}
 use mathlib.Core.List.{List}
 use mathlib.Core.Path.{◌∙◌, ◌≡◌, ap, ap₂, refl, subst, sym}
@@ -15,119 +19,68 @@ use native.Mathlib.Omega.{arith}
 use Rattle.transactions.specs.Content.{Operation, Transaction, no_operation}
 use Rattle.transactions.specs.Body.{operation_in, operations_from, transaction_of}
 use Rattle.sheets.proofs.SheetCells.{tx-from, tx-past}
+use Rattle.sheets.specs.Inner.{left_in}
 use Rattle.sheets.specs.Operations.{Leaves, Done, assigned, operate, operate_to, operated, tested}
 use Rattle.sheets.specs.Sheet.{sheet_in, slot, tx_at}
 use Rattle.sums.proofs.SeqLaws.{get_d_tabulate, length-tabulate}
-use Rattle.sums.proofs.TestLaws.{passed, pick-false, pick_true, took}
+use Rattle.sums.proofs.TestLaws.{pick-false, pick_true}
 use Rattle.sums.specs.Seq.{tabulate}
-use Rattle.sums.specs.Test.{both, pick}
+use Rattle.sums.specs.Test.{pick}
 use Rattle.sheets.specs.declared.operations.Ran.{Ran}
 use Rattle.sheets.specs.declared.sheet.Sizes.{Sizes}
 
-module _ (g : ℕ) (cells : List ℕ) (sized : length cells ≡ 64) (i : ℕ) where
-  pub register-past : min g 64 ≤ i → 0 ≡ get_or (take g cells) i 0
-  register-past h = sym (get_or-eq_default (take g cells) 0 (omega (arith, length-take g cells)))
+-- a store in the cells, as one in the first g of them
+pub take_of_set : (g : ℕ) (cells : List ℕ) (i v : ℕ) → take g (set cells i v) ≡ set (take g cells) i v
+take_of_set g cells i v = elim (dec_lt i g) [
+  | yes l ↦ take-set-lt g cells i v l
+  | no l ↦ take-set-le g cells i v (omega arith) ∙ sym (set_out (take g cells) i v (omega (arith, length-take g cells)))
+]
 
-  pub register_in : i < g → get_or cells i 0 ≡ get_or (take g cells) i 0
-  register_in h = sym (get_or-take g cells i 0 h)
+-- one operation, by its code
+module _ (op : Operation) (r : List ℕ) where
+  abbrev held : ℕ
+  held = get_or r op.register 0
 
-  pub store_in : (v : ℕ) → take g (set cells i v) ≡ set (take g cells) i v
-  store_in v = go (dec_lt i g)
-    where
-      go : Dec (i < g) → take g (set cells i v) ≡ set (take g cells) i v
-      go (yes l) = take-set-lt g cells i v l
-      go (no l) = take-set-le g cells i v (omega arith) ∙ sym (set_out (take g cells) i v (omega (arith, length-take g cells)))
+  -- what is tested passes with the register as it was
+  tested_left : (b : Bool) → tested b r ≡ left_in r op.register (then_some b held)
+  tested_left true = ap (tested true) (sym (set-get_or r op.register 0))
+  tested_left false = refl
 
-  pub store_out : (v : ℕ) → 64 ≤ i → take g cells ≡ set (take g cells) i v
-  store_out v h = sym (set_out (take g cells) i v (omega (arith, length-take g cells)))
+  pub operate_equals : op.code ≡ 0 → operate op r ≡ left_in r op.register (then_some (eqb held op.value) held)
+  unfolding operate pick
+  operate_equals e = rw e (tested_left (eqb held op.value))
 
--- one operation, by cases. c, i, w are its code, register and value, v what the register holds
-module _ (g : ℕ) (op : Operation) (cells : List ℕ) (c i w v : ℕ) (ec : c ≡ op.code) (ei : i ≡ op.register) (ew : w ≡ op.value)
-    (ev : v ≡ get_or (take g cells) i 0) where
-  held : v ≡ get_or (take g cells) op.register 0
-  held = ev ∙ ap (λ (k : ℕ). get_or (take g cells) k 0) ei
+  pub operate_least : op.code ≡ 1 → operate op r ≡ left_in r op.register (then_some (leb op.value held) held)
+  unfolding operate pick
+  operate_least e = rw e (tested_left (leb op.value held))
 
-  done : Bool → List ℕ → Done
-  done b l = record { passes = b; registers = l }
+  pub operate_set : op.code ≡ 2 → operate op r ≡ left_in r op.register (Some op.value)
+  unfolding operate pick
+  operate_set e = rw e refl
 
-  pub op-equal : c ≡ 0 → {r : Ran} → r.passes ≡ eqb v w → r.registers ≡ cells → Leaves g r (operate op (take g cells))
-  unfolding operate
-  op-equal h p q =
-      subst (Leaves g _) (sym (pick_true _ _ _ (eq-eqb op.code 0 (sym ec ∙ h))))
-      record { passes = p ∙ ap₂ eqb held ew; registers = ap (take g) q }
+  module _ (w v : ℕ) (ew : op.value ≡ w) (ev : held ≡ v) where
+    pub operate_add : op.code ≡ 3 → (left : Option ℕ) → SomeIff left (v + w < 2 ^ 32) (v + w) → operate op r ≡ left_in r op.register left
+    unfolding operate pick
+    operate_add e None h = rw (e, lt-leb (held + op.value) 4294967295 (omega (arith, h))) refl
+    operate_add e (Some n) h = rw (e, le-leb (held + op.value) 4294967295 (omega (arith, h.0))) (ap (assigned r op.register) (omega (arith, h.1)))
 
-  module _ (n0 : c ≡ 0 → ⊥) where
-    not0 : eqb op.code 0 ≡ false
-    not0 = ne_eqb _ _ (λ e. n0 (ec ∙ e))
+    pub operate_subtract : op.code ≡ 4 → (left : Option ℕ) → SomeIff left (w ≤ v) (v - w) → operate op r ≡ left_in r op.register left
+    unfolding operate pick
+    operate_subtract e None h = rw (e, lt-leb op.value held (omega (arith, h))) refl
+    operate_subtract e (Some n) h = rw (e, le-leb op.value held (omega (arith, h.0))) (ap (assigned r op.register) (omega (arith, h.1)))
 
-    pub op-least : c ≡ 1 → {r : Ran} → r.passes ≡ leb w v → r.registers ≡ cells → Leaves g r (operate op (take g cells))
-    unfolding operate
-    op-least h p q =
-        subst (Leaves g _) (sym (pick-false _ _ _ not0 ∙ pick_true _ _ _ (eq-eqb op.code 1 (sym ec ∙ h))))
-        record { passes = p ∙ ap₂ leb ew held; registers = ap (take g) q }
+  pub operate_none : 4 < op.code → operate op r ≡ left_in r op.register None
+  unfolding operate pick
+  operate_none h =
+      rw (
+        ne_eqb op.code 0 (λ e. omega arith),
+        ne_eqb op.code 1 (λ e. omega arith),
+        ne_eqb op.code 2 (λ e. omega arith),
+        ne_eqb op.code 3 (λ e. omega arith),
+        ne_eqb op.code 4 (λ e. omega arith),
+      ) refl
 
-    module _ (n1 : c ≡ 1 → ⊥) where
-      not1 : eqb op.code 1 ≡ false
-      not1 = ne_eqb _ _ (λ e. n1 (ec ∙ e))
-
-      -- a store of u
-      put_in : (u : ℕ) {r : Ran} → r.passes ≡ true → take g r.registers ≡ set (take g cells) i u → Leaves g r (assigned (take g cells) op.register u)
-      put_in u p q = record { passes = p; registers = q ∙ ap (λ (k : ℕ). set (take g cells) k u) ei }
-
-      pub op_set : c ≡ 2 → {r : Ran} → r.passes ≡ true → take g r.registers ≡ set (take g cells) i w → Leaves g r (operate op (take g cells))
-      unfolding operate
-      op_set h p q =
-          subst (Leaves g _) (sym (pick-false _ _ _ not0 ∙ pick-false _ _ _ not1 ∙ pick_true _ _ _ (eq-eqb op.code 2 (sym ec ∙ h))))
-          (put_in op.value p (q ∙ ap (set (take g cells) i) ew))
-
-      module _ (n2 : c ≡ 2 → ⊥) where
-        not2 : eqb op.code 2 ≡ false
-        not2 = ne_eqb _ _ (λ e. n2 (ec ∙ e))
-
-        pub op-add : c ≡ 3 → v + w ≤ 4294967295 → {r : Ran} → r.passes ≡ true → take g r.registers ≡ set (take g cells) i (v + w) → Leaves g r (operate op (take g cells))
-        unfolding operate
-        op-add h l p q =
-            let e : v + w ≡ get_or (take g cells) op.register 0 + op.value = ap₂ ◌+◌ held ew in
-            subst (Leaves g _) (sym (pick-false _ _ _ not0 ∙ pick-false _ _ _ not1 ∙ pick-false _ _ _ not2 ∙ pick_true _ _ _ (eq-eqb op.code 3 (sym ec ∙ h)) ∙ pick_true _ _ _ (le-leb (get_or (take g cells) op.register 0 + op.value) 4294967295 (omega arith))))
-            (put_in _ p (q ∙ ap (set (take g cells) i) e))
-
-        pub op-high : c ≡ 3 → 4294967295 < v + w → {r : Ran} → r.passes ≡ false → r.registers ≡ cells → Leaves g r (operate op (take g cells))
-        unfolding operate
-        op-high h l p q =
-            let e : v + w ≡ get_or (take g cells) op.register 0 + op.value = ap₂ ◌+◌ held ew in
-            subst (Leaves g _) (sym (pick-false _ _ _ not0 ∙ pick-false _ _ _ not1 ∙ pick-false _ _ _ not2 ∙ pick_true _ _ _ (eq-eqb op.code 3 (sym ec ∙ h)) ∙ pick-false _ _ _ (lt-leb (get_or (take g cells) op.register 0 + op.value) 4294967295 (omega arith))))
-            record { passes = p; registers = ap (take g) q }
-
-        module _ (n3 : c ≡ 3 → ⊥) where
-          not3 : eqb op.code 3 ≡ false
-          not3 = ne_eqb _ _ (λ e. n3 (ec ∙ e))
-
-          last : (u : Bool) → both (eqb op.code 4) (leb op.value (get_or (take g cells) op.register 0)) ≡ u
-              → operate op (take g cells) ≡ pick u (assigned (take g cells) op.register (get_or (take g cells) op.register 0 - op.value)) (tested false (take g cells))
-          unfolding operate
-          last u e = pick-false _ _ _ not0 ∙ pick-false _ _ _ not1 ∙ pick-false _ _ _ not2 ∙ pick-false _ _ _ not3
-              ∙ ap (λ (t : Bool). pick t (assigned (take g cells) op.register (get_or (take g cells) op.register 0 - op.value)) (tested false (take g cells))) e
-
-          fails-so : both (eqb op.code 4) (leb op.value (get_or (take g cells) op.register 0)) ≡ false
-              → {r : Ran} → r.passes ≡ false → r.registers ≡ cells → Leaves g r (operate op (take g cells))
-          fails-so e p q = subst (Leaves g _) (sym (last false e ∙ pick-false _ _ _ refl)) record { passes = p; registers = ap (take g) q }
-
-          pub op-none : (c ≡ 4 → ⊥) → {r : Ran} → r.passes ≡ false → r.registers ≡ cells → Leaves g r (operate op (take g cells))
-          op-none h p q = fails-so (passed _ (ne_eqb _ _ (λ e. h (ec ∙ e))) refl) p q
-
-          module _ (is4 : c ≡ 4) where
-            is-four : eqb op.code 4 ≡ true
-            is-four = eq-eqb op.code 4 (sym ec ∙ is4)
-
-            pub op-sub : w ≤ v → {r : Ran} → r.passes ≡ true → take g r.registers ≡ set (take g cells) i (v - w) → Leaves g r (operate op (take g cells))
-            op-sub l p q =
-                let e : v - w ≡ get_or (take g cells) op.register 0 - op.value = ap₂ ◌-◌ held ew in
-                subst (Leaves g _)
-                (sym (last true (took _ is-four (le-leb op.value (get_or (take g cells) op.register 0) (omega (arith, held)))) ∙ pick_true _ _ _ refl))
-                (put_in _ p (q ∙ ap (set (take g cells) i) e))
-
-            pub op-low : v < w → {r : Ran} → r.passes ≡ false → r.registers ≡ cells → Leaves g r (operate op (take g cells))
-            op-low l p q = fails-so (took _ is-four (lt-leb op.value (get_or (take g cells) op.register 0) (omega (arith, held)))) p q
+pub ruleset operate_by_code = (operate_equals, operate_least, operate_set, operate_none)
 
 -- ---- all operations: k are done, all passed, and the cells hold what they left
 

@@ -2,6 +2,7 @@
 -- Assumes nothing.
 use Prim.Native.Nat.{◌+◌, ◌<◌, ◌≤◌, suc, zero, ℕ}
 use borrow.Author.Tests.{eq-eqb, lt-ltb, ne_eqb}
+use Rattle.std.specs.Int.{from_bool}
 use lib.Dec.{eqb}
 use lib.ListN.{drop, get_or, length}
 use mathlib.Core.Bool.{Bool, false, not, true}
@@ -71,9 +72,16 @@ pub parts-le : (S : Sheet) (x : ℕ) → parts S x ≤ S.m
 unfolding parts
 parts-le S x = omega (arith, sum_most S.m 1 (λ j. given (has_part S x j) 1) (λ j l. given-le _ _))
 
-pub first_at : (S : Sheet) (s : List ℕ) (i c h : ℕ) (r : Bool) → c ≡ (entry_in s i).account → h ≡ home S c → r ≡ any_to i (entry_at_home S (entry_in s) h) → not r ≡ first_at_home S (entry_in s) i
-unfolding first_at_home
-first_at S s i c h r e q w = ap not (w ∙ ap (λ (k : ℕ). any_to i (entry_at_home S (entry_in s) k)) (q ∙ ap (home S) e))
+-- 1 is counted for an entry where no earlier one is of its instance
+pub first_counted : (S : Sheet) (s : List ℕ) (i c h : ℕ) (r : Bool) → c ≡ (entry_in s i).account → h ≡ home S c → r ≡ any_to i (entry_at_home S (entry_in s) h)
+    → (n : ℕ) → n ≡ from_bool (not r) → (n ≡ given (first_at_home S (entry_in s) i) 1) × (n ≤ 1)
+unfolding first_at_home given
+first_counted S s i c h r e q w n k =
+    counted _ n (k ∙ ap (λ (u : Bool). from_bool (not u)) (w ∙ ap (λ (j : ℕ). any_to i (entry_at_home S (entry_in s) j)) (q ∙ ap (home S) e)))
+  where
+    counted : (b : Bool) (n : ℕ) → n ≡ from_bool b → (n ≡ given b 1) × (n ≤ 1)
+    counted true n e = (e, omega arith)
+    counted false n e = (e, omega arith)
 
 module _ (b : List ℕ) (z : Sizes) (x : ℕ) where
   pub parts_none : z.m ≡ 0 → 0 ≡ parts (sheet_in b z) x

@@ -1,5 +1,6 @@
 -- A sheet whose every test passes is proper, and what a proper sheet gives to the theorems.
 -- Assumes nothing.
+use Rattle.std.proofs.Common.{Ok, Err}
 use Prim.Native.Nat.{◌<◌, ◌≤◌, ℕ}
 use borrow.Author.Tests.{eq-eqb, eqb-false, eqb-true, ltb-true, not-true}
 use lib.Dec.{eqb, ltb}
@@ -17,7 +18,7 @@ use Rattle.sums.proofs.TestLaws.{all_to_each, all_to_true, both_true, took}
 use Rattle.sums.specs.Sum.{sum_to}
 use Rattle.sums.specs.Test.{all_to}
 use Rattle.transactions.proofs.BodyLaws.{judged_anywhere}
-use Rattle.refusals.specs.declared.Checked.{Checked}
+use Rattle.refusals.specs.Refusals.{Checked}
 use Rattle.transactions.specs.Check.{accounts_once, balanced, counts_ok, distinct, entries_ok, entry_ok, in_range, judge_transaction, new_at}
 use Rattle.frames.proofs.HeaderLaws.{header_bounds}
 use Rattle.frames.specs.Balances.{balances_ok}
@@ -44,11 +45,11 @@ record TxProper (a : ℕ) (t : Transaction) : Type 0 where
   credited : (i : ℕ) → i < length t.credits → (entry_of t.credits i).account < a
   balanced : sum_to (length t.debits) (λ i. (entry_of t.debits i).amount) ≡ sum_to (length t.credits) (λ i. (entry_of t.credits i).amount)
 
-fine_true : (c : Checked) → is_fine c ≡ true → c ≡ Checked.Fine
-fine_true Checked.Fine e = refl
-fine_true (Checked.Refused r) e = absurd (let z : ◌≡◌ {A = ℕ} 0 1 = cc in omega arith)
+fine_true : (c : Checked) → is_fine c ≡ true → c ≡ Ok tt
+fine_true (Ok _) e = refl
+fine_true (Err r) e = absurd (let z : ◌≡◌ {A = ℕ} 0 1 = cc in omega arith)
 
-module _ (at a g : ℕ) (t : Transaction) (fine : judge_transaction at a g t ≡ Checked.Fine) where
+module _ (at a g : ℕ) (t : Transaction) (fine : judge_transaction at a g t ≡ Ok tt) where
   -- the three tests passed
   tests : (in_range a g t ≡ true) × (accounts_once t ≡ true) × (balanced t ≡ true)
   unfolding judge_transaction
@@ -86,7 +87,7 @@ module _ (S : Sheet) where
 
   -- what loading shows of a sheet makes it proper
   pub proper_so : header_ok S.m S.a S.g (tx_count S) ≡ true → length S.balances ≡ S.a → balances_ok S.balances ≡ true
-      → ((x : ℕ) → x < tx_count S → (at : ℕ) × (judge_transaction at S.a S.g (tx_at S x) ≡ Checked.Fine)) → is_proper S ≡ true
+      → ((x : ℕ) → x < tx_count S → (at : ℕ) × (judge_transaction at S.a S.g (tx_at S x) ≡ Ok tt)) → is_proper S ≡ true
   unfolding is_proper
   proper_so h l b f =
       took _ h (took _ (eq-eqb _ _ l) (took _ b (all_to_each (tx_count S) fine_at (λ x u. let (at, e) = f x u in ap is_fine (judged_anywhere at 0 S.a S.g (tx_at S x) e)))))

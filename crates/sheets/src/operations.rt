@@ -1,12 +1,14 @@
 // Operations on the registers (document 01, "Operations").
-ghost use Rattle.std.specs.Prelude.{get_or, set, take, ◌≡◌};
+ghost use Rattle.std.specs.Prelude.{ℕ, get_or, set, take, List, ◌≡◌};
+ghost use Rattle.transactions.specs.Content.{Operation};
 ghost use Rattle.transactions.specs.Body.{operation_in};
+ghost use Rattle.sheets.specs.Inner.{left_in};
 ghost use Rattle.sheets.specs.Operations.{Leaves, operate, operate_to, operated};
 ghost use Rattle.sheets.specs.Sheet.{sheet_in};
 ghost use Rattle.sums.specs.Seq.{tabulate};
 
 use crate::sheet::{Sizes, slot_of};
-use fields::byte_at;
+use fields::{byte_at, put};
 use transactions::lists::{code_at, operations, register_at, value_at};
 
 // What a run of operations leaves.
@@ -16,66 +18,69 @@ pub struct Ran {
     pub registers: [u32; 64],
 }
 
+// The codes of the operations.
+const EQUALS: u8 = 0;
+
+const IS_AT_LEAST: u8 = 1;
+
+const SET: u8 = 2;
+
+const ADD: u8 = 3;
+
+const SUBTRACT: u8 = 4;
+
 // The register i of g.
 fn register_of(g: u16, registers: [u32; 64], i: u8) -> u32
     ensures { result ≡ get_or (take g registers) i 0 }
 {
-    let at = i as usize;
-    if 64 <= at {
-        return 0;
+    if u16::from(i) < g {
+        registers.get(usize::from(i)).copied().unwrap_or(0)
+    } else {
+        0
     }
-    if (i as u16) < g { registers[at] } else { 0 }
 }
 
 // The registers with v in register i.
-fn store(g: u16, registers: [u32; 64], i: u8, v: u32) -> [u32; 64]
+#[tactic(auto, using(crate::proofs::OperationCells::take_of_set))]
+fn store(g: u16, mut registers: [u32; 64], i: u8, v: u32) -> [u32; 64]
     ensures { take g result ≡ set (take g registers) i v }
 {
-    let mut next = registers;
-    let at = i as usize;
-    if at < 64 {
-        next[at] = v;
-    }
-    next
+    put(&mut registers, usize::from(i), v);
+    registers
 }
 
-// What is left after an operation.
-fn after(passes: bool, registers: [u32; 64]) -> Ran
-    ensures { (result.passes ≡ passes) × (result.registers ≡ registers) }
+// What an operation leaves in its register, which holds v; None where it does not pass.
+#[tactic(auto, using(crate::proofs::OperationCells::operate_by_code))]
+fn left_by(code: u8, value: u32, v: u32) -> Option<u32>
+    ensures { (op : Operation) (r : List ℕ) → op.code ≡ code → op.value ≡ value → get_or r op.register 0 ≡ v
+        → operate op r ≡ left_in r op.register result }
 {
-    Ran { passes, registers }
+    match code {
+        EQUALS => (v == value).then_some(v),
+        IS_AT_LEAST => (value <= v).then_some(v),
+        SET => Some(value),
+        ADD => v.checked_add(value),
+        SUBTRACT => v.checked_sub(value),
+        _ => None,
+    }
 }
 
 // Operation k of a list.
 fn operate_on(g: u16, list: &[u8], k: u8, registers: [u32; 64]) -> Ran
     ensures { Leaves g result (operate (operation_in list.now k) (take g registers)) }
 {
-    let code = code_at(list, k);
     let i = register_at(list, k);
-    let value = value_at(list, k);
     let v = register_of(g, registers, i);
-    if code == 0 {
-        return after(v == value, registers);
+    match left_by(code_at(list, k), value_at(list, k), v) {
+        Some(left) => Ran {
+            passes: true,
+            registers: store(g, registers, i, left),
+        },
+        None => Ran {
+            passes: false,
+            registers,
+        },
     }
-    if code == 1 {
-        return after(value <= v, registers);
-    }
-    if code == 2 {
-        return after(true, store(g, registers, i, value));
-    }
-    if code == 3 {
-        if value <= 4294967295 - v {
-            return after(true, store(g, registers, i, v + value));
-        }
-        return after(false, registers);
-    }
-    if code != 4 {
-        return after(false, registers);
-    }
-    if value <= v {
-        return after(true, store(g, registers, i, v - value));
-    }
-    after(false, registers)
 }
 
 // The first n operations of a list, up to the first that does not pass.
@@ -102,7 +107,10 @@ pub fn run(sheet: &[u8], z: Sizes, x: u16, registers: [u32; 64]) -> Ran
     ensures { Leaves z.g result (operated (sheet_in sheet.now z) x (take z.g registers)) }
 {
     if z.t <= x {
-        return after(true, registers);
+        return Ran {
+            passes: true,
+            registers,
+        };
     }
     let body = slot_of(sheet, z, x);
     run_list(z.g, operations(body), byte_at(body, 3), registers)

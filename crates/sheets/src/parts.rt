@@ -47,7 +47,7 @@ fn first_at(sheet: &[u8], z: Sizes, list: &[u8], i: u8) -> u16
     ensures { (result ≡ given (first_at_home (sheet_in sheet.now z) (entry_in list.now) i) 1) × (result ≤ 1) }
 {
     let h = home_of(sheet, z, account_at(list, i));
-    if any_home(sheet, z, list, i, h) { 0 } else { 1 }
+    u16::from(!any_home(sheet, z, list, i, h))
 }
 
 // How many instances the first n entries of a list are in.

@@ -42,6 +42,9 @@ pub fn is_contract(sheet: &[u8], z: Sizes, x: u16) -> bool
     kind_of(sheet, z, x) == 1
 }
 
+// No balance is above 2^40.
+const MOST_BALANCE: u64 = 1099511627776;
+
 // The starting balance of account k.
 pub fn balance_at(sheet: &[u8], z: Sizes, k: u16) -> u64
     ensures { (result ≡ balance (sheet_in sheet.now z) k) × (result ≤ 1099511627776) }
@@ -49,8 +52,7 @@ pub fn balance_at(sheet: &[u8], z: Sizes, k: u16) -> u64
     if z.a <= k {
         return 0;
     }
-    let v = u64_at(sheet, 8 * (k as usize));
-    if v < 1099511627776 { v } else { 1099511627776 }
+    u64_at(sheet, 8 * (k as usize)).min(MOST_BALANCE)
 }
 
 // What entry i of a list puts on account k.

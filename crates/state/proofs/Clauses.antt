@@ -1,12 +1,13 @@
 -- What each clause of the loading call's contract, and of what is said of the working buffers, gives the caller.
 -- One law a clause: whoever loses a clause breaks its law.
 -- Assumes nothing.
+use Rattle.std.proofs.Common.{Ok, None}
 use Prim.Native.Nat.{◌*◌, ℕ}
 use lib.ListN.{drop, length}
 use mathlib.Core.Bool.{false, true}
 use mathlib.Core.List.{List}
 use mathlib.Core.Path.{◌≡◌}
-use Rattle.frames.specs.declared.step.Step.{Step}
+use Rattle.frames.specs.Step.{Step}
 use Rattle.frames_load.specs.Load.{LoadStep}
 use Rattle.settlement.specs.Tables.{Buffers}
 use Rattle.sheets.specs.declared.sheet.Sizes.{Sizes}
@@ -21,7 +22,7 @@ module _ {l : Ledger} {run : List ℕ} {at : ℕ} {before after : List ℕ} {r :
   sheet-step = p.loads
 
   -- then it does nothing
-  pub sheet-whole : complete l ≡ true → (r ≡ after_step l Step.End) × (after ≡ before)
+  pub sheet-whole : complete l ≡ true → (r ≡ after_step l (Ok None)) × (after ≡ before)
   sheet-whole = p.whole
 
 -- no place of a working buffer from its least length on is changed, and no buffer gets longer or shorter

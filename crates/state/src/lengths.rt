@@ -1,11 +1,12 @@
 // The least lengths of the buffers that an offer lends (docs/BUFFERS.md), and refusal 16.
-ghost use Rattle.std.specs.Prelude.{[], ◌∷◌, ◌≡◌};
+ghost use Rattle.std.specs.Prelude.{[], ◌∷◌, ◌≡◌, ltb};
 ghost use Rattle.admission.specs.Replies.{reply_to};
 ghost use Rattle.state.specs.Lengths.{least_lengths, needs_list};
+ghost use Rattle.plain.specs.Answer.{refuse};
 ghost use Rattle.plain.specs.Plain.{lent_answer};
 
 use crate::ledger::Ledger;
-use refusals::{Checked, Refusal};
+use refusals::Refusal;
 
 #[derive(Clone, Copy)]
 pub struct Lengths {
@@ -38,33 +39,26 @@ pub fn least_lengths(ledger: Ledger) -> Lengths
     }
 }
 
+// Refusal 16 where one buffer is shorter than it must be.
+pub fn check_room(least: usize, lent: usize) -> Result<(), Refusal>
+    ensures { reply_to result ≡ refuse (ltb lent least) 16 least }
+{
+    if lent < least {
+        return Err(Refusal::BufferShort(least));
+    }
+    Ok(())
+}
+
 // Refusal 16 at the first buffer that is shorter than it must be.
-pub fn check_lengths(least: Lengths, lent: Lengths) -> Checked
+pub fn check_lengths(least: Lengths, lent: Lengths) -> Result<(), Refusal>
     ensures { reply_to result ≡ lent_answer (needs_list least) (needs_list lent) }
 {
-    if lent.sheet < least.sheet {
-        return Checked::Refused(Refusal::BufferShort(least.sheet));
-    }
-    if lent.ranks < least.ranks {
-        return Checked::Refused(Refusal::BufferShort(least.ranks));
-    }
-    if lent.cuts < least.cuts {
-        return Checked::Refused(Refusal::BufferShort(least.cuts));
-    }
-    if lent.cites < least.cites {
-        return Checked::Refused(Refusal::BufferShort(least.cites));
-    }
-    if lent.good < least.good {
-        return Checked::Refused(Refusal::BufferShort(least.good));
-    }
-    if lent.counts < least.counts {
-        return Checked::Refused(Refusal::BufferShort(least.counts));
-    }
-    if lent.table < least.table {
-        return Checked::Refused(Refusal::BufferShort(least.table));
-    }
-    if lent.order < least.order {
-        return Checked::Refused(Refusal::BufferShort(least.order));
-    }
-    Checked::Fine
+    check_room(least.sheet, lent.sheet)?;
+    check_room(least.ranks, lent.ranks)?;
+    check_room(least.cuts, lent.cuts)?;
+    check_room(least.cites, lent.cites)?;
+    check_room(least.good, lent.good)?;
+    check_room(least.counts, lent.counts)?;
+    check_room(least.table, lent.table)?;
+    check_room(least.order, lent.order)
 }

@@ -2,22 +2,14 @@
 ghost use Rattle.state.specs.Loading.{LoadsSheet};
 
 use crate::ledger::{Ledger, is_complete};
-use frames::step::Step;
 use frames_load::load;
 use refusals::Refusal;
 
-// The answer to a call: where the next frame begins; why the frame was turned away; or that the sheet is complete, so that nothing is left to load.
-#[derive(Clone, Copy)]
-pub enum Taken {
-    Next(usize),
-    Refused(Refusal),
-    Complete,
-}
-
-// The answer, and the ledger afterwards.
+// The answer to a call, and the ledger afterwards. The answer is where the next frame begins, or why the frame was turned away; None
+// says that the sheet is complete, so that nothing is left to load.
 #[derive(Clone, Copy)]
 pub struct Loaded {
-    pub answer: Taken,
+    pub answer: Result<Option<usize>, Refusal>,
     pub ledger: Ledger,
 }
 
@@ -27,26 +19,26 @@ pub fn load_sheet(ledger: Ledger, run: &[u8], at: usize, sheet: &mut [u8]) -> Lo
 {
     if is_complete(ledger) {
         return Loaded {
-            answer: Taken::Complete,
+            answer: Ok(None),
             ledger,
         };
     }
     let loading = ledger.loading;
     let heights = ledger.heights;
     match load(run, at, loading, sheet) {
-        Step::Took(next, end) => Loaded {
-            answer: Taken::Next(end),
+        Ok(Some((next, end))) => Loaded {
+            answer: Ok(Some(end)),
             ledger: Ledger {
                 loading: next,
                 heights,
             },
         },
-        Step::Refused(r) => Loaded {
-            answer: Taken::Refused(r),
+        Err(r) => Loaded {
+            answer: Err(r),
             ledger,
         },
-        Step::End => Loaded {
-            answer: Taken::Complete,
+        Ok(None) => Loaded {
+            answer: Ok(None),
             ledger,
         },
     }

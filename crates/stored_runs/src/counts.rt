@@ -3,27 +3,26 @@ ghost use Rattle.std.specs.Prelude.{◌≤◌, ◌≡◌};
 ghost use Rattle.stored_runs.specs.Counts.{added};
 ghost use Rattle.sums.specs.Test.{bit};
 
-#[derive(Clone, Copy)]
+use std::fmt;
+use std::fmt::Display;
+
+#[derive(Clone, Copy, Default)]
 pub struct Tally {
     pub runs: u64,
     pub agree: u64,
+}
+
+impl Display for Tally {
+    fn fmt<W: fmt::Write>(&self, f: &mut fmt::Formatter<W>) -> fmt::Result {
+        write!(f, "{} runs, {} agree", self.runs, self.agree)
+    }
 }
 
 pub fn one_if(b: bool) -> u64
     ensures value { result ≡ bit b }
     ensures upper_bound { result ≤ 1 }
 {
-    if b { 1 } else { 0 }
-}
-
-fn plus(a: u64, b: u64) -> u64
-    ensures { result ≡ added a b }
-{
-    if a <= 18446744073709551615 - b {
-        a + b
-    } else {
-        18446744073709551615
-    }
+    u64::from(b)
 }
 
 // Those of two files.
@@ -32,7 +31,7 @@ pub fn together(a: Tally, b: Tally) -> Tally
     ensures agree_value { result.agree ≡ added a.agree b.agree }
 {
     Tally {
-        runs: plus(a.runs, b.runs),
-        agree: plus(a.agree, b.agree),
+        runs: a.runs.saturating_add(b.runs),
+        agree: a.agree.saturating_add(b.agree),
     }
 }

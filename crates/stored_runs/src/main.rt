@@ -7,33 +7,39 @@
 #![tactic(auto)]
 
 mod counts;
-mod input;
 mod texts;
 
 ghost use Rattle.std.specs.Prelude.{◌≤◌};
 
 use counts::{Tally, one_if, together};
 use fields::{front, u32_at};
-use input::read_full;
 use report::report::report_run;
 use std::io::Read;
 use std::{fs, io};
 use texts::same;
 
-// What is found where the next entry would be.
-#[derive(Clone, Copy)]
-enum Entry {
-    End,
-    Agrees,
-    Differs,
-}
+// The groups, each a file.
+const GROUPS: [&str; 12] = [
+    "edges",
+    "rules",
+    "empty",
+    "empty_views",
+    "share",
+    "cut_off",
+    "sheets",
+    "slips",
+    "blocks",
+    "refusals",
+    "limits",
+    "generated",
+];
 
 // Fills the first n bytes of a buffer from a file. Whether the buffer and the file have so many.
 fn fill<R: Read>(file: &mut R, space: &mut [u8], n: usize) -> bool {
-    if space.len() < n {
-        return false;
+    match space.get_mut(..n) {
+        Some(front) => file.read_exact(front).is_ok(),
+        None => false,
     }
-    read_full(file, &mut space[..n]) == n
 }
 
 // Whether the reading of a run is the given text.
@@ -59,31 +65,28 @@ fn agrees(run: &[u8], text: &[u8]) -> bool {
         &mut order,
         &mut out,
     );
-    let length = done.length;
-    same(front(&out, length), text)
+    same(front(&out, done.unwrap_or(0)), text)
 }
 
-// Takes the next entry of a file. One that is cut off, or too long to be a run and its reading, differs.
-fn next_entry<R: Read>(file: &mut R) -> Entry {
+// Takes the next entry of a file, and tells whether the reading of its run is its text: None at the file's end, and false where the
+// entry is cut off, or too long to be a run and its reading.
+fn next_entry<R: Read>(file: &mut R) -> Option<bool> {
     let mut head = [0u8; 8];
-    let got = read_full(file, &mut head);
+    let got = file.read(&mut head).unwrap_or(0);
     if got == 0 {
-        return Entry::End;
+        return None;
+    }
+    if file.read_exact(&mut head[got..]).is_err() {
+        return Some(false);
     }
     let run = u32_at(&head, 0) as usize;
     let text = u32_at(&head, 4) as usize;
     let mut runs = [0u8; 65537];
     let mut texts = [0u8; 262144];
-    if !fill(file, &mut runs, run) {
-        return Entry::Differs;
+    if !fill(file, &mut runs, run) || !fill(file, &mut texts, text) {
+        return Some(false);
     }
-    if !fill(file, &mut texts, text) {
-        return Entry::Differs;
-    }
-    if agrees(front(&runs, run), front(&texts, text)) {
-        return Entry::Agrees;
-    }
-    Entry::Differs
+    Some(agrees(front(&runs, run), front(&texts, text)))
 }
 
 // The entries of a file, 4,096 at most: nothing says that a file ends.
@@ -93,42 +96,14 @@ fn tally<R: Read>(file: &mut R) -> Tally
 {
     let mut runs = 0u64;
     let mut agree = 0u64;
-    while runs < 4096 {
-        let entry = next_entry(file);
-        if is_end(entry) {
+    for _ in 0..4096u32 {
+        let Some(agrees) = next_entry(file) else {
             break;
-        }
+        };
         runs += 1;
-        agree += one_if(is_same(entry));
+        agree += one_if(agrees);
     }
-    Tally {
-        runs: runs,
-        agree: agree,
-    }
-}
-
-fn is_end(entry: Entry) -> bool {
-    match entry {
-        Entry::End => true,
-        Entry::Agrees => false,
-        Entry::Differs => false,
-    }
-}
-
-fn is_same(entry: Entry) -> bool {
-    match entry {
-        Entry::End => false,
-        Entry::Agrees => true,
-        Entry::Differs => false,
-    }
-}
-
-// A write that fails is let go, and the next one is made.
-fn print_tally(rt: &impl Print, tally: Tally) {
-    let _ = rt.print(tally.runs);
-    let _ = rt.print(" runs, ");
-    let _ = rt.print(tally.agree);
-    let _ = rt.print(" agree\n");
+    Tally { runs, agree }
 }
 
 // The system's words for an error, without their number.
@@ -152,36 +127,25 @@ fn say_why(rt: &(impl Eprint + AllocGlobal), name: &str, error: io::Error) {
     }
 }
 
-// The entries of the file of a name, which are printed and added to those before.
-fn group(rt: &HostRuntime, name: &str, before: Tally) -> Tally {
+// The entries of the file of a name, which are printed. A write that fails is let go, here and below.
+fn group(rt: &HostRuntime, name: &str) -> Tally {
     match fs::open(rt, name) {
         Ok(mut file) => {
             let found = tally(&mut file);
-            let _ = rt.print(name);
-            let _ = rt.print(": ");
-            print_tally(rt, found);
-            together(before, found)
+            let _ = println!(rt; "{name}: {found}");
+            found
         }
         Err(error) => {
             say_why(rt, name, error);
-            before
+            Tally::default()
         }
     }
 }
 
 fn main(rt: HostRuntime) {
-    let none = Tally { runs: 0, agree: 0 };
-    let edges = group(&rt, "edges", none);
-    let rules = group(&rt, "rules", edges);
-    let empty = group(&rt, "empty", rules);
-    let empty_views = group(&rt, "empty_views", empty);
-    let share = group(&rt, "share", empty_views);
-    let cut_off = group(&rt, "cut_off", share);
-    let sheets = group(&rt, "sheets", cut_off);
-    let slips = group(&rt, "slips", sheets);
-    let blocks = group(&rt, "blocks", slips);
-    let refusals = group(&rt, "refusals", blocks);
-    let limits = group(&rt, "limits", refusals);
-    let generated = group(&rt, "generated", limits);
-    print_tally(&rt, generated);
+    let mut all = Tally::default();
+    for name in GROUPS {
+        all = together(all, group(&rt, name));
+    }
+    let _ = println!(&rt; "{all}");
 }

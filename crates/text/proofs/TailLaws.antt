@@ -4,16 +4,17 @@ use Prim.Native.Nat.{◌+◌, ◌<◌, ◌≤◌, min, suc, zero, ℕ}
 use lib.ListN.{get_or, length, take}
 use lib.Seq.{take_all}
 use mathlib.Core.List.{List, [], ◌++◌, ◌∷◌, append_assoc, append-nil, map, zip, zip_with}
+use mathlib.Core.Logic.{◌⊎◌, inl, inr}
 use mathlib.Core.Path.{◌∙◌, ◌≡◌, ap, refl, sym}
-use native.Mathlib.Decide.{dec_le}
 use native.Mathlib.Numerals.{add-one}
 use native.Mathlib.Omega.{arith}
+use Rattle.std.proofs.Common.{rules}
 use Rattle.ordering.specs.Order.{Ref}
 use Rattle.plain.specs.Report as Q
 use Rattle.plain.specs.Report.{Report, lists_of, value_of}
 use Rattle.settlement.specs.Tables.{code_of, status_of}
 use Rattle.text.proofs.StatusLaws.{statuses_of}
-use Rattle.text.proofs.WroteLaws.{wrote_as, wrote_none, wrote_then}
+use Rattle.text.proofs.WroteLaws.{Left, left_then, left-none, wrote_as, wrote_none, wrote_then}
 use Rattle.text.specs.Lines.{log_line, tx_line}
 use Rattle.text.specs.Tail.{code_lines, lines_from, lists_text, log_lines, number_lines, pair_lines, tail_text, tx_lines}
 use Rattle.text.specs.Wrote.{Wrote}
@@ -25,13 +26,6 @@ unfolding zip zip_with
 length_zip [] b = omega arith
 length_zip (x ∷ a) [] = omega arith
 length_zip (x ∷ a) (y ∷ b) = omega (arith, length_zip a b)
-
-pub take_zip : (n : ℕ) (a b : List ℕ) → take n (zip a b) ≡ zip (take n a) (take n b)
-unfolding zip zip_with
-take_zip zero a b = refl
-take_zip (suc n) [] b = refl
-take_zip (suc n) (x ∷ a) [] = refl
-take_zip (suc n) (x ∷ a) (y ∷ b) = ap (λ l. (x, y) ∷ l) (take_zip n a b)
 
 pub zip_at : (a b : List ℕ) (k : ℕ) → k < length a → k < length b → get_or (zip a b) k (0, 0) ≡ (get_or a k 0, get_or b k 0)
 unfolding zip zip_with
@@ -51,7 +45,7 @@ lines_to f s (x ∷ l) (suc k) j d h e =
     append_assoc (f s x) (lines_from f (suc s) (take k l)) (f j (get_or l k d))
     ∙ ap (λ (t : List ℕ). f s x ++ t) (lines_to f (suc s) l k j d (omega arith) (omega arith))
 
--- a loop that writes the line of each member: before the first, after member k, and where it stops at n or at the list's end
+-- a loop that writes the line of each member: before the first, after member k, and where it stops at the list's end
 module _ {A : Type 0} (f : ℕ → A → List ℕ) (m : List A) where
   pub lines_none : (l : List ℕ) (at : ℕ) → Wrote l at (lines_from f 0 (take 0 m)) l at
   unfolding lines_from
@@ -61,31 +55,25 @@ module _ {A : Type 0} (f : ℕ → A → List ℕ) (m : List A) where
       → Wrote l at (lines_from f 0 (take k m)) l1 p → Wrote l1 p (f k (get_or m k d)) l2 q → Wrote l at (lines_from f 0 (take (k + 1) m)) l2 q
   lines_turn k d h w u = rw add-one (wrote_as (lines_to f 0 m k k d h (omega arith)) (wrote_then w u))
 
-  pub lines_done : {l l1 : List ℕ} {at p : ℕ} (k n : ℕ) → k ≤ n → min n (length m) ≤ k
-      → Wrote l at (lines_from f 0 (take k m)) l1 p → Wrote l at (lines_from f 0 (take n m)) l1 p
-  lines_done k n h u w = rw (go (dec_le n k)) at w
-    where
-      go : Dec (n ≤ k) → take k m ≡ take n m
-      go (yes e) = let q : k ≡ n = omega arith in ap (λ (j : ℕ). take j m) q
-      go (no e) = take_all k m (omega arith) ∙ sym (take_all n m (omega arith))
+  pub lines_all : {l l1 : List ℕ} {at p : ℕ} (k : ℕ) → length m ≤ k → Wrote l at (lines_from f 0 (take k m)) l1 p → Wrote l at (lines_from f 0 m) l1 p
+  lines_all k h w = rw (take_all k m h) at w
 
--- the same of two lists
-abbrev pub pairs_to : (ℕ → ℕ → ℕ → List ℕ) → List ℕ → List ℕ → ℕ → List ℕ
-pairs_to f a b k = lines_from (λ i p. f i p.0 p.1) 0 (take k (zip a b))
+-- the same of two lists, by what is left of them: one line more, and where one of them has ended
+abbrev pub pairs_from : (ℕ → ℕ → ℕ → List ℕ) → ℕ → List ℕ → List ℕ → List ℕ
+pairs_from f k a b = lines_from (λ i p. f i p.0 p.1) k (zip a b)
 
-module _ (f : ℕ → ℕ → ℕ → List ℕ) (a b : List ℕ) where
-  pub pairs_none : (l : List ℕ) (at : ℕ) → Wrote l at (pairs_to f a b 0) l at
-  pairs_none l at = lines_none (λ i p. f i p.0 p.1) (zip a b) l at
+module _ (f : ℕ → ℕ → ℕ → List ℕ) {l text l1 : List ℕ} {at p : ℕ} where
+  pub pairs_turn : {a a' b b' l2 : List ℕ} {x y q : ℕ} (k j : ℕ) → (a ≡ x ∷ a') × (b ≡ y ∷ b') → j ≡ suc k
+      → Left l at text l1 p (pairs_from f k a b) → Wrote l1 p (f k x y) l2 q → Left l at text l2 q (pairs_from f j a' b')
+  unfolding lines_from zip zip_with
+  pairs_turn k j h e w u = rw e (left_then (rw (h.0, h.1) at w) u)
 
-  pub pairs_turn : {l l1 l2 : List ℕ} {at p q : ℕ} (k : ℕ) → k < length a → k < length b
-      → Wrote l at (pairs_to f a b k) l1 p → Wrote l1 p (f k (get_or a k 0) (get_or b k 0)) l2 q → Wrote l at (pairs_to f a b (k + 1)) l2 q
-  pairs_turn k h u w v =
-      lines_turn (λ i p. f i p.0 p.1) (zip a b) k (0, 0) (omega (arith, length_zip a b)) w (rw (zip_at a b k h u) v)
-
-  pub pairs_done : {l l1 : List ℕ} {at p : ℕ} (k n : ℕ) → k ≤ n → min n (min (length a) (length b)) ≤ k
-      → Wrote l at (pairs_to f a b k) l1 p → Wrote l at (pair_lines f (take n a) (take n b)) l1 p
-  unfolding pair_lines
-  pairs_done k n h u w = rw (take_zip n a b) at (lines_done (λ i p. f i p.0 p.1) (zip a b) k n h (omega (arith, length_zip a b)) w)
+  pub pairs_end : (a b : List ℕ) (k : ℕ) → (a ≡ []) ⊎ (b ≡ []) → Left l at text l1 p (pairs_from f k a b) → Wrote l at text l1 p
+  unfolding lines_from zip zip_with
+  pairs_end [] b k h w = left-none w
+  pairs_end (x ∷ a) [] k h w = left-none w
+  pairs_end (x ∷ a) (y ∷ b) k (inl e) w = absurd (search rules)
+  pairs_end (x ∷ a) (y ∷ b) k (inr e) w = absurd (search rules)
 
 -- ---- lines of a list's images
 

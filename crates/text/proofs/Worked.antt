@@ -14,11 +14,13 @@ unfolding run_line ok_line line fields field decimal decimal_by bytes_of
 whole_head = refl
 
 pub whole_tail : tail_text whole_report ≡ bytes_of "log 1 1\nlog 0 1\ntx 0 paid\ntx 1 paid\naccount 0 6 0\naccount 1 6 0\naccount 2 3 0\nregister 0 7\nshare 1000\n"
-unfolding tail_text log_lines tx_lines account_lines register_lines lines_from pair_lines zip zip_with log_line tx_line account_line register_line share_line line fields field decimal decimal_by bytes_of
+unfolding tail_text log_lines tx_lines account_lines register_lines lines_from pair_lines zip zip_with
+    log_line tx_line account_line register_line share_line line fields field decimal decimal_by bytes_of
 whole_tail = refl
 
 pub cut_tail : tail_text cut_report ≡ bytes_of "log 1 1\nlog 0 1\ntx 0 paid\ntx 1 returned\naccount 0 6 0\naccount 1 0 0\naccount 2 9 0\nregister 0 0\nshare 1000\n"
-unfolding tail_text log_lines tx_lines account_lines register_lines lines_from pair_lines zip zip_with log_line tx_line account_line register_line share_line line fields field decimal decimal_by bytes_of
+unfolding tail_text log_lines tx_lines account_lines register_lines lines_from pair_lines zip zip_with
+    log_line tx_line account_line register_line share_line line fields field decimal decimal_by bytes_of
 cut_tail = refl
 
 pub open_line : tx_line 1023 pending ≡ bytes_of "tx 1023 open\n"

@@ -3,7 +3,7 @@
 use Prim.Native.Nat.{◌+◌, ◌<◌, ◌≤◌, suc, ℕ}
 use lib.ListN.{drop, get_or, length, length-append, length-set, set, take}
 use lib.Seq.{length-sets, set_out, sets, sets-eq, take_all, take-suc}
-use mathlib.Core.List.{List, [], ◌++◌, ◌∷◌}
+use mathlib.Core.List.{List, [], ◌++◌, ◌∷◌, append_assoc, append-nil}
 use mathlib.Core.Path.{◌∙◌, ◌≡◌, ap, refl, sym}
 use native.Mathlib.Decide.{dec_lt}
 use native.Mathlib.Numerals.{add-one}
@@ -43,6 +43,21 @@ wrote_then {l} {a} {b = b} {at = at} w v =
 
 pub wrote_as : {l a b l' : List ℕ} {at p : ℕ} → a ≡ b → Wrote l at a l' p → Wrote l at b l' p
 wrote_as e w = rw e at w
+
+-- so much of a text is written that this is left of it
+pub record Left (before : List ℕ) (at : ℕ) (text : List ℕ) (after : List ℕ) (p : ℕ) (left : List ℕ) : Type 0 where
+  pub first : List ℕ
+  pub wrote : Wrote before at first after p
+  pub whole : first ++ left ≡ text
+
+pub left-all : (l : List ℕ) (at : ℕ) (text : List ℕ) → Left l at text l at text
+left-all l at text = record { first = []; wrote = wrote_none l at; whole = refl }
+
+pub left_then : {l text l1 v rest l2 : List ℕ} {at p q : ℕ} → Left l at text l1 p (v ++ rest) → Wrote l1 p v l2 q → Left l at text l2 q rest
+left_then {v = v} {rest} w u = record { first = w.first ++ v; wrote = wrote_then w.wrote u; whole = append_assoc w.first v rest ∙ w.whole }
+
+pub left-none : {l text l1 : List ℕ} {at p : ℕ} → Left l at text l1 p [] → Wrote l at text l1 p
+left-none w = wrote_as (sym (append-nil w.first) ∙ w.whole) w.wrote
 
 -- in a buffer that is long enough: the text, and around it what was there
 pub wrote_whole : {l v l' : List ℕ} {at p : ℕ} → Wrote l at v l' p → at + length v ≤ length l → (l' ≡ take at l ++ v ++ drop p l) × (p ≡ at + length v)

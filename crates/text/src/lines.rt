@@ -5,6 +5,7 @@ ghost use Rattle.text.specs.Wrote.{Wrote};
 
 use crate::write::{put_field, put_line, put_word};
 
+#[tactic(auto, unfolding(crate::specs::Ascii::bytes_of, crate::specs::Lines::run_line))]
 pub fn put_run(out: &mut [u8], at: usize, m: u16, a: u16, g: u16, t: u16) -> usize
     ensures { Wrote out.old at (run_line m a g t) out.new result }
 {
@@ -12,6 +13,7 @@ pub fn put_run(out: &mut [u8], at: usize, m: u16, a: u16, g: u16, t: u16) -> usi
     put_line(out, at, b"run", &numbers)
 }
 
+#[tactic(auto, unfolding(crate::specs::Ascii::bytes_of, crate::specs::Lines::ok_line))]
 pub fn put_ok(out: &mut [u8], at: usize, instance: u16, number: u16) -> usize
     ensures { Wrote out.old at (ok_line instance number) out.new result }
 {
@@ -19,6 +21,7 @@ pub fn put_ok(out: &mut [u8], at: usize, instance: u16, number: u16) -> usize
     put_line(out, at, b"ok", &numbers)
 }
 
+#[tactic(auto, unfolding(crate::specs::Ascii::bytes_of, crate::specs::Lines::refused_line))]
 pub fn put_refused(out: &mut [u8], at: usize, number: u8, place: usize) -> usize
     ensures { Wrote out.old at (refused_line number place) out.new result }
 {
@@ -32,6 +35,7 @@ pub fn put_long(out: &mut [u8], at: usize) -> usize
     put_word(out, at, b"long\n")
 }
 
+#[tactic(auto, unfolding(crate::specs::Ascii::bytes_of, crate::specs::Lines::log_line))]
 pub(crate) fn put_log(out: &mut [u8], at: usize, instance: u16, number: u16) -> usize
     ensures { Wrote out.old at (log_line instance number) out.new result }
 {
@@ -60,6 +64,7 @@ pub(crate) fn put_tx(out: &mut [u8], at: usize, x: u64, status: u8) -> usize
     put_status(out, number, status)
 }
 
+#[tactic(auto, unfolding(crate::specs::Ascii::bytes_of, crate::specs::Lines::account_line))]
 pub(crate) fn put_account(out: &mut [u8], at: usize, k: u64, free: u64, held: u64) -> usize
     ensures { Wrote out.old at (account_line k free held) out.new result }
 {
@@ -67,6 +72,7 @@ pub(crate) fn put_account(out: &mut [u8], at: usize, k: u64, free: u64, held: u6
     put_line(out, at, b"account", &numbers)
 }
 
+#[tactic(auto, unfolding(crate::specs::Ascii::bytes_of, crate::specs::Lines::register_line))]
 pub(crate) fn put_register(out: &mut [u8], at: usize, r: u64, value: u32) -> usize
     ensures { Wrote out.old at (register_line r value) out.new result }
 {
@@ -74,6 +80,7 @@ pub(crate) fn put_register(out: &mut [u8], at: usize, r: u64, value: u32) -> usi
     put_line(out, at, b"register", &numbers)
 }
 
+#[tactic(auto, unfolding(crate::specs::Ascii::bytes_of, crate::specs::Lines::share_line))]
 pub(crate) fn put_share(out: &mut [u8], at: usize, share: u32) -> usize
     ensures { Wrote out.old at (share_line share) out.new result }
 {

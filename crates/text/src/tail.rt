@@ -1,56 +1,53 @@
 // What follows the lines of the blocks, from lists as the calls for readings fill them: their first members, as far as they go.
-ghost use Rattle.std.specs.Prelude.{min, take, ◌≡◌};
+ghost use Rattle.std.specs.Prelude.{take, ◌≡◌};
 ghost use Rattle.text.specs.Tail.{account_lines, code_lines, lists_text, number_lines, register_lines};
 ghost use Rattle.text.specs.Wrote.{Wrote};
 
 use crate::lines::{put_account, put_log, put_register, put_share, put_tx};
 
-fn least(a: usize, b: usize) -> usize
-    ensures { result ≡ min a b }
+// At most the first n members.
+fn front<T>(list: &[T], n: usize) -> &[T]
+    ensures { result.now ≡ take n list.now }
 {
-    if a < b { a } else { b }
+    &list[..n.min(list.len())]
 }
 
-fn put_logs(out: &mut [u8], at: usize, n: usize, instances: &[u16], numbers: &[u16]) -> usize
-    ensures { Wrote out.old at (number_lines (take n instances.now) (take n numbers.now)) out.new result }
+fn put_logs(out: &mut [u8], at: usize, instances: &[u16], numbers: &[u16]) -> usize
+    ensures { Wrote out.old at (number_lines instances.now numbers.now) out.new result }
 {
-    let end = least(n, least(instances.len(), numbers.len()));
     let mut next = at;
-    for k in 0..end {
-        next = put_log(out, next, instances[k], numbers[k]);
+    for (&instance, &number) in instances.iter().zip(numbers) {
+        next = put_log(out, next, instance, number);
     }
     next
 }
 
-fn put_txs(out: &mut [u8], at: usize, t: usize, statuses: &[u8]) -> usize
-    ensures { Wrote out.old at (code_lines (take t statuses.now)) out.new result }
+fn put_txs(out: &mut [u8], at: usize, statuses: &[u8]) -> usize
+    ensures { Wrote out.old at (code_lines statuses.now) out.new result }
 {
-    let end = least(t, statuses.len());
     let mut next = at;
-    for x in 0..end {
-        next = put_tx(out, next, x as u64, statuses[x]);
+    for (x, &status) in statuses.iter().enumerate() {
+        next = put_tx(out, next, x as u64, status);
     }
     next
 }
 
-fn put_accounts(out: &mut [u8], at: usize, a: usize, free: &[u64], held: &[u64]) -> usize
-    ensures { Wrote out.old at (account_lines (take a free.now) (take a held.now)) out.new result }
+fn put_accounts(out: &mut [u8], at: usize, free: &[u64], held: &[u64]) -> usize
+    ensures { Wrote out.old at (account_lines free.now held.now) out.new result }
 {
-    let end = least(a, least(free.len(), held.len()));
     let mut next = at;
-    for k in 0..end {
-        next = put_account(out, next, k as u64, free[k], held[k]);
+    for (k, (&free, &held)) in free.iter().zip(held).enumerate() {
+        next = put_account(out, next, k as u64, free, held);
     }
     next
 }
 
-fn put_registers(out: &mut [u8], at: usize, g: usize, registers: &[u32]) -> usize
-    ensures { Wrote out.old at (register_lines (take g registers.now)) out.new result }
+fn put_registers(out: &mut [u8], at: usize, registers: &[u32]) -> usize
+    ensures { Wrote out.old at (register_lines registers.now) out.new result }
 {
-    let end = least(g, registers.len());
     let mut next = at;
-    for k in 0..end {
-        next = put_register(out, next, k as u64, registers[k]);
+    for (r, &value) in registers.iter().enumerate() {
+        next = put_register(out, next, r as u64, value);
     }
     next
 }
@@ -78,9 +75,9 @@ pub fn put_tail(
         out.new
         result }
 {
-    let logs = put_logs(out, at, n, instances, numbers);
-    let txs = put_txs(out, logs, t as usize, statuses);
-    let accounts = put_accounts(out, txs, a as usize, free, held);
-    let next = put_registers(out, accounts, g as usize, registers);
+    let logs = put_logs(out, at, front(instances, n), front(numbers, n));
+    let txs = put_txs(out, logs, front(statuses, t as usize));
+    let accounts = put_accounts(out, txs, front(free, a as usize), front(held, a as usize));
+    let next = put_registers(out, accounts, front(registers, g as usize));
     put_share(out, next, share)
 }

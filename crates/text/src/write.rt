@@ -18,8 +18,8 @@ pub(crate) fn put_word(out: &mut [u8], at: usize, word: &[u8]) -> usize
     ensures { Wrote out.old at word.now out.new result }
 {
     let mut next = at;
-    for k in 0..word.len() {
-        next = put_byte(out, next, word[k]);
+    for &b in word {
+        next = put_byte(out, next, b);
     }
     next
 }
@@ -48,8 +48,8 @@ pub(crate) fn put_line(out: &mut [u8], at: usize, word: &[u8], numbers: &[u64]) 
     ensures { Wrote out.old at (line word.now (map decimal numbers.now)) out.new result }
 {
     let mut next = put_word(out, at, word);
-    for k in 0..numbers.len() {
-        next = put_field(out, next, numbers[k]);
+    for &n in numbers {
+        next = put_field(out, next, n);
     }
     put_byte(out, next, b'\n')
 }

@@ -1,5 +1,6 @@
 -- What a body says does not hang on the bytes after it, and a fine body is short.
 -- Assumes nothing.
+use Rattle.std.proofs.Common.{Ok}
 use Prim.Native.Nat.{◌*◌, ◌+◌, ◌<◌, ◌≤◌, ℕ}
 use borrow.Author.Tests.{eqb-true, leb-true, ltb-false}
 use lib.Dec.{eqb, leb, ltb}
@@ -18,7 +19,6 @@ use Rattle.sums.specs.Seq.{tabulate}
 use Rattle.transactions.specs.Body.{end_due, entry_in, operation_in, transaction_of}
 use Rattle.transactions.specs.Check.{accounts_once, balanced, check_transaction, counts_ok, in_range, judge_transaction}
 use Rattle.transactions.specs.Content.{Transaction}
-use Rattle.refusals.specs.declared.Checked.TheVariants.{Fine}
 
 number-front : (w : ℕ) (b post : List ℕ) (from i : ℕ) → from + i + w ≤ length b → le w (drop from (b ++ post)) i ≡ le w (drop from b) i
 number-front w b post from i h = le-drop w (b ++ post) from i ∙ le-front w b post (from + i) h ∙ sym (le-drop w b from i)
@@ -85,7 +85,7 @@ range_small a g b e =
     let c = counts_small _ _ _ _ (both_true (counts_ok (transaction_of b).kind (length (transaction_of b).debits) (length (transaction_of b).credits) (length (transaction_of b).operations)) e).0 in
     rw (length-tabulate, length-tabulate, length-tabulate) at c
 
-pub transaction_fine : (b : List ℕ) (at a g : ℕ) → check_transaction b at a g ≡ Fine → BodyFine b
+pub transaction_fine : (b : List ℕ) (at a g : ℕ) → check_transaction b at a g ≡ Ok tt → BodyFine b
 unfolding check_transaction judge_transaction
 transaction_fine b at a g e =
     let p = not_refused (ltb (length b) 4) _ e in
@@ -95,12 +95,12 @@ transaction_fine b at a g e =
     let few = range_small a g b r.0 in
     record { four = ltb-false (length b) 4 p.0; due = due; small = omega arith }
 
-pub transaction_checked : (b : List ℕ) (at a g : ℕ) → check_transaction b at a g ≡ Fine → judge_transaction at a g (transaction_of b) ≡ Fine
+pub transaction_checked : (b : List ℕ) (at a g : ℕ) → check_transaction b at a g ≡ Ok tt → judge_transaction at a g (transaction_of b) ≡ Ok tt
 unfolding check_transaction
 transaction_checked b at a g e = (held (eqb (length b) (end_due b)) _ (not_refused (ltb (length b) 4) _ e).1).1
 
 -- whether a transaction is fine does not hang on the place that a refusal would give
-pub judged_anywhere : (p q a g : ℕ) (t : Transaction) → judge_transaction p a g t ≡ Fine → judge_transaction q a g t ≡ Fine
+pub judged_anywhere : (p q a g : ℕ) (t : Transaction) → judge_transaction p a g t ≡ Ok tt → judge_transaction q a g t ≡ Ok tt
 unfolding judge_transaction
 judged_anywhere p q a g t e =
     let x = held (in_range a g t) _ e in

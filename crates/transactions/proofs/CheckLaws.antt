@@ -1,5 +1,6 @@
 -- The check of a transaction in the terms of the code, and which case of it holds.
 -- Assumes nothing.
+use Rattle.std.proofs.Common.{Ok, Err}
 use Prim.Native.Nat.{◌<◌, ◌≤◌, ℕ}
 use borrow.Author.Tests.{eq-eqb, le-ltb, lt-ltb, ne_eqb}
 use lib.Dec.{eqb}
@@ -15,7 +16,6 @@ use Rattle.sums.specs.Test.{all_to, both}
 use Rattle.transactions.specs.Body.{credits_from, end_due, entry_in, operation_in, operations_from, transaction_of}
 use Rattle.transactions.specs.Check.{accounts_once, amounts, balanced, check_transaction, counts_ok, distinct, entries_ok, entry_ok, in_range, judge_transaction, operation_ok, operations_ok}
 use Rattle.transactions.specs.Content.{Entry, entry_of, no_entry, no_operation}
-use Rattle.refusals.specs.declared.Checked.TheVariants.{Fine, Refused}
 use Rattle.refusals.specs.declared.Refusal.TheVariants.{AccountTwice, BodyLength, OutOfRange, SumsDiffer}
 
 pub distinct_ext : (n : ℕ) (e f : ℕ → Entry) → ((k : ℕ) → k < n → e k ≡ f k) → distinct n e ≡ distinct n f
@@ -53,12 +53,12 @@ module _ (b : List ℕ) where
 
 -- which case of the check holds
 module _ (b : List ℕ) (at a g : ℕ) where
-  pub check_short : length b < 4 → check_transaction b at a g ≡ Refused (BodyLength at)
+  pub check_short : length b < 4 → check_transaction b at a g ≡ Err (BodyLength at)
   unfolding check_transaction
   check_short h = took _ (lt-ltb _ _ h) refl
 
   module _ (four : 4 ≤ length b) where
-    pub check-length : (length b ≡ end_due b → ⊥) → check_transaction b at a g ≡ Refused (BodyLength at)
+    pub check-length : (length b ≡ end_due b → ⊥) → check_transaction b at a g ≡ Err (BodyLength at)
     unfolding check_transaction
     check-length h = passed _ (le-ltb _ _ four) (took _ (ap not (ne_eqb _ _ h)) refl)
 
@@ -67,20 +67,20 @@ module _ (b : List ℕ) (at a g : ℕ) where
       unfolding check_transaction
       check-judge = passed _ (le-ltb _ _ four) (passed _ (ap not (eq-eqb _ _ due)) refl)
 
-      pub check-range : in_range a g (transaction_of b) ≡ false → check_transaction b at a g ≡ Refused (OutOfRange at)
+      pub check-range : in_range a g (transaction_of b) ≡ false → check_transaction b at a g ≡ Err (OutOfRange at)
       unfolding judge_transaction
       check-range h = check-judge ∙ took _ (ap not h) refl
 
       module _ (range : in_range a g (transaction_of b) ≡ true) where
-        pub check-twice : accounts_once (transaction_of b) ≡ false → check_transaction b at a g ≡ Refused (AccountTwice at)
+        pub check-twice : accounts_once (transaction_of b) ≡ false → check_transaction b at a g ≡ Err (AccountTwice at)
         unfolding judge_transaction
         check-twice h = check-judge ∙ passed _ (ap not range) (took _ (ap not h) refl)
 
         module _ (once : accounts_once (transaction_of b) ≡ true) where
-          pub check-sums : balanced (transaction_of b) ≡ false → check_transaction b at a g ≡ Refused (SumsDiffer at)
+          pub check-sums : balanced (transaction_of b) ≡ false → check_transaction b at a g ≡ Err (SumsDiffer at)
           unfolding judge_transaction
           check-sums h = check-judge ∙ passed _ (ap not range) (passed _ (ap not once) (took _ (ap not h) refl))
 
-          pub check-fine : balanced (transaction_of b) ≡ true → check_transaction b at a g ≡ Fine
+          pub check-fine : balanced (transaction_of b) ≡ true → check_transaction b at a g ≡ Ok tt
           unfolding judge_transaction
           check-fine h = check-judge ∙ passed _ (ap not range) (passed _ (ap not once) (passed _ (ap not h) refl))

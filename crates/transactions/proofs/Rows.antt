@@ -1,9 +1,9 @@
 -- A transaction that breaks two rules gets the refusal of the first, computed.
 -- Assumes nothing.
+use Rattle.std.proofs.Common.{Err}
 use Prim.Native.Nat.{ℕ}
 use mathlib.Core.List.{[], ◌∷◌}
 use mathlib.Core.Path.{◌≡◌, refl}
-use Rattle.refusals.specs.declared.Checked.TheVariants.{Refused}
 use Rattle.refusals.specs.declared.Refusal.TheVariants.{AccountTwice, OutOfRange}
 use Rattle.sums.specs.Sum.{sum_to}
 use Rattle.sums.specs.Test.{all_to, pick}
@@ -20,10 +20,10 @@ twice k = record {
 }
 
 -- on a sheet of two accounts: 5 before 6, and 6 before 7
-pub five_before_six : judge_transaction 20 2 0 (twice 2) ≡ Refused (OutOfRange 20)
+pub five_before_six : judge_transaction 20 2 0 (twice 2) ≡ Err (OutOfRange 20)
 unfolding sum_to all_to pick entry_ok operation_ok counts_ok in_range accounts_once balanced judge_transaction
 five_before_six = refl
 
-pub six_before_seven : judge_transaction 20 2 0 (twice 1) ≡ Refused (AccountTwice 20)
+pub six_before_seven : judge_transaction 20 2 0 (twice 1) ≡ Err (AccountTwice 20)
 unfolding sum_to all_to pick entry_ok operation_ok counts_ok in_range accounts_once balanced judge_transaction
 six_before_seven = refl

@@ -1,12 +1,11 @@
 -- The check of a transaction: refusals 4 to 7, in this order. a and g are the sheet's accounts and registers.
 -- Assumes nothing.
-use Rattle.std.specs.Prelude.{ℕ, eqb, leb, ltb, length, Bool, not, true, List}
+use Rattle.std.specs.Prelude.{ℕ, eqb, leb, ltb, length, Bool, not, true, List, Ok, Err}
 use Rattle.sums.specs.Sum.{sum_to}
 use Rattle.sums.specs.Test.{all_to, both, pick}
 use Rattle.transactions.specs.Body.{end_due, transaction_of}
 use Rattle.transactions.specs.Content.{Entry, Operation, Transaction, entry_of, operation_of}
-use Rattle.refusals.specs.declared.Checked.{Checked}
-use Rattle.refusals.specs.declared.Checked.TheVariants.{Fine, Refused}
+use Rattle.refusals.specs.Refusals.{Checked}
 use Rattle.refusals.specs.declared.Refusal.TheVariants.{AccountTwice, BodyLength, OutOfRange, SumsDiffer}
 
 -- refusal 5: "an account .. not on the sheet"; an amount is "at least 1"
@@ -63,12 +62,12 @@ balanced t = eqb (amounts (length t.debits) (entry_of t.debits)) (amounts (lengt
 -- refusals 5, 6 and 7 over the whole transaction, in this order; at is the place that the refusal gives
 unfoldable pub judge_transaction : ℕ → ℕ → ℕ → Transaction → Checked
 judge_transaction at a g t =
-    pick (not (in_range a g t)) (Refused (OutOfRange at))
-    (pick (not (accounts_once t)) (Refused (AccountTwice at))
-    (pick (not (balanced t)) (Refused (SumsDiffer at)) Fine))
+    pick (not (in_range a g t)) (Err (OutOfRange at))
+    (pick (not (accounts_once t)) (Err (AccountTwice at))
+    (pick (not (balanced t)) (Err (SumsDiffer at)) (Ok tt)))
 
 -- refusal 4, "body length not the one of the kinds table (.. by its counts), or too short to hold them", then 5, 6 and 7: the check of a body, of a frame at the offset at
 unfoldable pub check_transaction : List ℕ → ℕ → ℕ → ℕ → Checked
 check_transaction b at a g =
-    pick (ltb (length b) 4) (Refused (BodyLength at))
-    (pick (not (eqb (length b) (end_due b))) (Refused (BodyLength at)) (judge_transaction at a g (transaction_of b)))
+    pick (ltb (length b) 4) (Err (BodyLength at))
+    (pick (not (eqb (length b) (end_due b))) (Err (BodyLength at)) (judge_transaction at a g (transaction_of b)))

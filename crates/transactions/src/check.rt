@@ -5,7 +5,7 @@ ghost use Rattle.transactions.specs.Check.{accounts_once, amounts, balanced, che
 
 use crate::lists::{account_at, amount_at, credits, debits, operations};
 use fields::byte_at;
-use refusals::{Checked, Refusal};
+use refusals::Refusal;
 
 fn entry_ok(list: &[u8], k: u8, a: u16) -> bool
     ensures { result ≡ entry_ok a (entry_in list.now k) }
@@ -143,26 +143,26 @@ fn sums_agree(body: &[u8]) -> bool
 }
 
 // The check of a transaction's body on a sheet of a accounts and g registers, of a frame at the offset at.
-pub fn check_transaction(body: &[u8], at: usize, a: u16, g: u16) -> Checked
+pub fn check_transaction(body: &[u8], at: usize, a: u16, g: u16) -> Result<(), Refusal>
     ensures { result ≡ check_transaction body.now at a g }
 {
     if body.len() < 4 {
-        return Checked::Refused(Refusal::BodyLength(at));
+        return Err(Refusal::BodyLength(at));
     }
     let lists = (byte_at(body, 1) as usize)
         + (byte_at(body, 2) as usize)
         + (byte_at(body, 3) as usize);
     if body.len() != 4 + 6 * lists {
-        return Checked::Refused(Refusal::BodyLength(at));
+        return Err(Refusal::BodyLength(at));
     }
     if !in_range(body, a, g) {
-        return Checked::Refused(Refusal::OutOfRange(at));
+        return Err(Refusal::OutOfRange(at));
     }
     if !accounts_once(body) {
-        return Checked::Refused(Refusal::AccountTwice(at));
+        return Err(Refusal::AccountTwice(at));
     }
     if !sums_agree(body) {
-        return Checked::Refused(Refusal::SumsDiffer(at));
+        return Err(Refusal::SumsDiffer(at));
     }
-    Checked::Fine
+    Ok(())
 }

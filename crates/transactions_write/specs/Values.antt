@@ -3,7 +3,6 @@
 use Rattle.std.specs.Prelude.{ℕ, eqb, get_or, length, Bool, List}
 use Rattle.sums.specs.Seq.{tabulate}
 use Rattle.sums.specs.Test.{both}
-use Rattle.transactions.specs.Check.{amounts}
 use Rattle.transactions.specs.Content.{Entry, Operation, Transaction}
 use Rattle.transactions_write.specs.declared.Counts.{Counts}
 

@@ -9,19 +9,18 @@ ghost use Rattle.std.proofs.lemmas.List.Edits.{sets};
 ghost use Rattle.encoding.specs.Body.{frame_bytes, transaction_body};
 ghost use Rattle.encoding.specs.Verdict.{transaction_verdict};
 ghost use Rattle.encoding.specs.Writing.{Wrote};
-ghost use Rattle.transactions.specs.Check.{check_transaction};
-ghost use Rattle.transactions_write.specs.Inner.{Agree};
-ghost use Rattle.transactions_write.specs.Values.{counts_agree, lists, lists_agree, transaction_with};
+ghost use Rattle.transactions_write.specs.Inner.{Agree, lists_in, members_bytes};
+ghost use Rattle.transactions_write.specs.Values.{lists, lists_agree, transaction_with};
 
-use crate::lists::{put_entries, put_operations};
-use encoding::emit::{Written, put_frame};
+use crate::lists::{Lists, put_entries, put_operations};
+use encoding::emit::put_frame;
 use fields::put_byte;
 use frames::step::{Loading, kind_due};
-use refusals::{Checked, Refusal};
+use refusals::Refusal;
 use transactions::check::check_transaction;
 
 // The bytes before the lists: type 0 payment or 1 contract, and how long each list is.
-#[derive(Clone, Copy)]
+#[derive(Clone, Copy, Debug, PartialEq, Eq)]
 pub struct Counts {
     pub kind: u8,
     pub debits: u8,
@@ -29,38 +28,8 @@ pub struct Counts {
     pub operations: u8,
 }
 
-fn lists_agree(
-    n: Counts,
-    payers: usize,
-    debits: usize,
-    payees: usize,
-    credits: usize,
-    codes: usize,
-    registers: usize,
-    values: usize,
-) -> bool
-    ensures { result ≡ counts_agree n payers debits payees credits codes registers values }
-{
-    if payers != n.debits as usize {
-        return false;
-    }
-    if debits != n.debits as usize {
-        return false;
-    }
-    if payees != n.credits as usize {
-        return false;
-    }
-    if credits != n.credits as usize {
-        return false;
-    }
-    if codes != n.operations as usize {
-        return false;
-    }
-    if registers != n.operations as usize {
-        return false;
-    }
-    values == n.operations as usize
-}
+// The longest body: four bytes, and six for each of 255 debits, credits and operations.
+const MOST: usize = 4594;
 
 fn put_counts(out: &mut [u8], n: Counts)
     ensures { out.new ≡ sets out.old 0 (n.kind ∷ n.debits ∷ n.credits ∷ n.operations ∷ []) }
@@ -72,76 +41,25 @@ fn put_counts(out: &mut [u8], n: Counts)
 }
 
 // The body into a buffer that has room for it.
-fn put_body(
-    out: &mut [u8],
-    n: Counts,
-    payers: &[u16],
-    debits: &[u32],
-    payees: &[u16],
-    credits: &[u32],
-    codes: &[u8],
-    registers: &[u8],
-    values: &[u32],
-)
-    requires { (4 + 6 * length payers.now + 6 * length payees.now + 6 * length codes.now ≤ length out.old)
-        × Agree n
-        (length payers.now)
-        (length debits.now)
-        (length payees.now)
-        (length credits.now)
-        (length codes.now)
-        (length registers.now)
-        (length values.now) }
-    ensures { out.new
-        ≡ sets
-        out.old
-        0
-        (transaction_body (transaction_with n.kind (lists payers.now debits.now payees.now credits.now codes.now registers.now values.now))) }
+fn put_body(out: &mut [u8], n: Counts, lists: Lists<'_>)
+    requires { (members_bytes (lists_in lists) ≤ length out.old) × Agree n (lists_in lists) }
+    ensures { out.new ≡ sets out.old 0 (transaction_body (transaction_with n.kind (lists_in lists.entry))) }
 {
-    let second = 4 + 6 * payers.len();
-    let third = second + 6 * payees.len();
+    let second = 4 + 6 * lists.payers.len();
+    let third = second + 6 * lists.payees.len();
     put_counts(out, n);
-    put_entries(out, 4, payers, debits);
-    put_entries(out, second, payees, credits);
-    put_operations(out, third, codes, registers, values);
-}
-
-// The reader's check of the first n bytes of a slice.
-fn check_prefix(body: &[u8], n: usize, a: u16, g: u16) -> Checked
-    requires { n ≤ length body.now }
-    ensures { result ≡ check_transaction (take n body.now) 0 a g }
-{
-    check_transaction(&body[..n], 0, a, g)
+    put_entries(out, 4, lists.payers, lists.debits);
+    put_entries(out, second, lists.payees, lists.credits);
+    put_operations(out, third, lists.codes, lists.registers, lists.values);
 }
 
 // The body, and zeros after it.
-fn transaction_body(
-    n: Counts,
-    payers: &[u16],
-    debits: &[u32],
-    payees: &[u16],
-    credits: &[u32],
-    codes: &[u8],
-    registers: &[u8],
-    values: &[u32],
-) -> [u8; 4594]
-    requires { (4 + 6 * length payers.now + 6 * length payees.now + 6 * length codes.now ≤ 4594)
-        × Agree n
-        (length payers.now)
-        (length debits.now)
-        (length payees.now)
-        (length credits.now)
-        (length codes.now)
-        (length registers.now)
-        (length values.now) }
-    ensures { take (4 + 6 * length payers.now + 6 * length payees.now + 6 * length codes.now) result
-        ≡ transaction_body
-        (transaction_with n.kind (lists payers.now debits.now payees.now credits.now codes.now registers.now values.now)) }
+fn transaction_body(n: Counts, lists: Lists<'_>) -> [u8; MOST]
+    requires { (members_bytes (lists_in lists) ≤ MOST) × Agree n (lists_in lists) }
+    ensures { take (members_bytes (lists_in lists.entry)) result ≡ transaction_body (transaction_with n.kind (lists_in lists.entry)) }
 {
-    let mut body = [0u8; 4594];
-    put_body(
-        &mut body, n, payers, debits, payees, credits, codes, registers, values,
-    );
+    let mut body = [0u8; MOST];
+    put_body(&mut body, n, lists);
     body
 }
 
@@ -157,7 +75,7 @@ pub fn write_transaction(
     codes: &[u8],
     registers: &[u8],
     values: &[u32],
-) -> Written
+) -> Result<usize, Refusal>
     ensures { Wrote
         (transaction_verdict s
         (lists_agree n (lists payers.now debits.now payees.now credits.now codes.now registers.now values.now))
@@ -167,23 +85,24 @@ pub fn write_transaction(
         out.new
         result }
 {
+    let lists = Lists {
+        payers,
+        debits,
+        payees,
+        credits,
+        codes,
+        registers,
+        values,
+    };
     if kind_due(s) != 3 {
-        return Written::Refused(Refusal::KindNotDue(0));
+        return Err(Refusal::KindNotDue(0));
     }
-    if !lists_agree(
-        n,
-        payers.len(),
-        debits.len(),
-        payees.len(),
-        credits.len(),
-        codes.len(),
-        registers.len(),
-        values.len(),
-    ) {
-        return Written::Refused(Refusal::BodyLength(0));
+    if !lists.agree(n) {
+        return Err(Refusal::BodyLength(0));
     }
     let end = 4 + 6 * (n.debits as usize) + 6 * (n.credits as usize) + 6 * (n.operations as usize);
-    let body = transaction_body(n, payers, debits, payees, credits, codes, registers, values);
-    let checked = check_prefix(&body, end, s.a, s.g);
-    put_frame(out, checked, 3, &body, end)
+    let whole = transaction_body(n, lists);
+    let body = &whole[..end];
+    check_transaction(body, 0, s.a, s.g)?;
+    put_frame(out, Ok(()), 3, body)
 }

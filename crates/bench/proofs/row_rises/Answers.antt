@@ -1,25 +1,16 @@
-use mathlib.Core.Path.{sym, ◌∙◌}
+use borrow.Author.Rules.{rules}
+use mathlib.Core.Bool.{false, true}
+use mathlib.Core.Path.{◌≡◌, refl}
 use native.Mathlib.Omega.{arith}
-use Rattle.bench.specs.Bench.{rises}
-use Rattle.sums.proofs.LoopLaws.{all_to-none, all_to-more, all_to_not, all_to_done}
+use Rattle.bench.proofs.Ready.{all_below}
+use Rattle.bench.specs.Bench.{rises, rises_at}
+use Rattle.std.proofs.lemmas.Iterator.{YieldsList-from_range, cases_from_all}
 use Rattle.bench.proofs.row_rises.Goals as goal
-
-pub loop-n-init : goal.loop-n-init
-loop-n-init c = (omega arith, all_to-none _)
-
-pub returns-then-not-rises_at : goal.returns-then-not-rises_at
-unfolding rises
-returns-then-not-rises_at c = sym (all_to_not _ _ _ c.loop-n-test.true (sym c.rises_at.ensures ∙ c.if-not-rises_at.true))
-
-pub overflow_step-n : goal.overflow_step-n
-overflow_step-n c = omega arith
-
-pub loop-n-smaller : goal.loop-n-smaller
-loop-n-smaller c = omega arith
-
-pub loop-n-preserved : goal.loop-n-preserved
-loop-n-preserved c = (omega arith, all_to-more _ _ c.loop-n.invariant.1 (sym c.rises_at.ensures ∙ c.if-not-rises_at.false))
 
 pub returns : goal.returns
 unfolding rises
-returns c = sym (all_to_done _ _ _ c.loop-n.invariant.0 c.loop-n-test.false c.loop-n.invariant.1)
+returns c =
+    let b = c.args.b in
+    let f = rises_at c.args.ranks.now b c.args.j in
+    all_below b f _ (cases_from_all _ _ _ (λ n. f n ≡ true) (λ n. f n ≡ false) c.all.ensures.ran
+    (YieldsList-from_range 0 b b refl (omega arith)) (λ n q k. search rules) (λ n q k. search rules))

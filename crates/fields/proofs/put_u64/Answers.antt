@@ -1,12 +1,9 @@
-use mathlib.Core.Path.{sym}
-use Rattle.fields.proofs.NumberLaws.{le_bytes_mod}
-use Rattle.fields.proofs.StoreLaws.{store_halves, store_past}
+use mathlib.Core.Path.{◌∙◌, ap}
+use lib.Seq.{sets}
+use Rattle.fields.proofs.NumberLaws.{written}
+use Rattle.fields.specs.Number.{store_number}
 use Rattle.fields.proofs.put_u64.Goals as goal
 
-pub returns-then-out-at : goal.returns-then-out-at
-returns-then-out-at c = sym (store_past 8 c.args.out.now c.args.at c.args.v c.if-out-at.true)
-
 pub returns : goal.returns
-returns c =
-    let a = c.args in
-    rw (c.put_u32-2.ensures, c.put_u32.ensures) (store_halves 4 a.out.now a.at a.v _ (le_bytes_mod 4 a.v))
+unfolding store_number
+returns c = c.put_bytes.ensures ∙ ap (sets c.args.out.now c.args.at) (c.to_le_bytes.ensures ∙ written 8 c.args.v)

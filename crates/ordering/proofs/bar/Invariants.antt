@@ -1,4 +1,4 @@
-use Prim.Native.Nat.{◌-◌, ◌≤◌}
+use Prim.Native.Nat.{◌≤◌}
 use mathlib.Core.Path.{◌≡◌}
 use Rattle.ordering.specs.Pairs.{bar_pair}
 use Rattle.ordering.specs.Table.{count_in, rank_in}
@@ -6,6 +6,3 @@ use Rattle.ordering.proofs.bar.Given as goal
 
 abbrev pub invariant-loop-j : goal.invariant-loop-j
 invariant-loop-j l = (l.j ≤ l.m) × (l.low ≡ bar_pair l.j (rank_in l.ranks) (count_in l.full)) × (l.low.rank ≤ 4294967296)
-
-abbrev pub decreases-loop-j : goal.decreases-loop-j
-decreases-loop-j l = l.m - l.j

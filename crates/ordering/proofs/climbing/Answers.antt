@@ -1,5 +1,4 @@
 use Prim.Native.Nat.{ℕ}
-use borrow.Author.Rules.{rules}
 use mathlib.Core.Path.{◌∙◌, ◌≡◌, ap, sym}
 use native.Mathlib.Omega.{arith}
 use Rattle.ordering.proofs.Laws.{last_next, last_none}
@@ -10,29 +9,10 @@ use Rattle.ordering.proofs.climbing.Goals as goal
 pub loop-n-init : goal.loop-n-init
 loop-n-init c = (omega arith, sym (last_none (rank_in c.args.ranks.now c.args.instance) 0 (omega arith)), climb_zero (rank_in c.args.ranks.now c.args.instance))
 
--- src/lib.rt:132:13
-
-pub rank_at-r-requires : goal.rank_at-r-requires
-rank_at-r-requires c = search rules
-
--- src/lib.rt:135:13
-
 pub returns-then-now-last : goal.returns-then-now-last
 returns-then-now-last c =
     let a = c.args in
     climb_end (rank_in a.ranks.now a.instance) c.loop-n.n a.count c.loop-n.invariant.2 (omega (arith, c.loop-n.invariant.1, c.if-now-last.true, c.rank_at-r.ensures)) c.loop-n-test.true
-
--- src/lib.rt:138:9
-
-pub overflow_add-n : goal.overflow_add-n
-overflow_add-n c = omega arith
-
--- src/lib.rt:131:5
-
-pub loop-n-smaller : goal.loop-n-smaller
-loop-n-smaller c = omega arith
-
--- src/lib.rt:131:5
 
 pub loop-n-preserved : goal.loop-n-preserved
 loop-n-preserved c =
@@ -41,10 +21,8 @@ loop-n-preserved c =
     let r : c.rank_at-r.result.0 ≡ f c.loop-n.n = c.rank_at-r.ensures in
     (omega arith, r ∙ sym (last_next f c.loop-n.n), climb-more f c.loop-n.n c.loop-n.invariant.2 (omega (arith, r, c.loop-n.invariant.1, c.if-now-last.false)))
 
--- src/lib.rt:126:1
-
 pub returns : goal.returns
 returns c =
     let a = c.args in
     let e : c.loop-n.n ≡ a.count = omega arith in
-    sym c.loop-n.invariant.2 ∙ ap (climb (rank_in a.ranks.now a.instance)) e
+    sym e ∙ sym c.loop-n.invariant.2 ∙ ap (climb (rank_in a.ranks.now a.instance)) e

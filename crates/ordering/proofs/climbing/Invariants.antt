@@ -1,4 +1,4 @@
-use Prim.Native.Nat.{◌-◌, ◌≤◌}
+use Prim.Native.Nat.{◌≤◌}
 use mathlib.Core.Path.{◌≡◌}
 use Rattle.ordering.specs.Order.{last_of}
 use Rattle.ordering.specs.Table.{climb, rank_in}
@@ -6,8 +6,3 @@ use Rattle.ordering.proofs.climbing.Given as goal
 
 abbrev pub invariant-loop-n : goal.invariant-loop-n
 invariant-loop-n l = (l.n ≤ l.count) × (l.last ≡ last_of (rank_in l.ranks l.instance) l.n) × (climb (rank_in l.ranks l.instance) l.n ≡ l.n)
-
-abbrev pub decreases-loop-n : goal.decreases-loop-n
-decreases-loop-n l = l.count - l.n
-
--- src/lib.rt:131:5

@@ -12,7 +12,7 @@ loop-j-init c = (omega arith, omega arith, fold_done _ 0 _ _ _ (omega arith) (om
 pub loop-j-preserved : goal.loop-j-preserved
 loop-j-preserved c =
     let a = c.args in
-    let e = c.least-end.ensures in (
+    let e = c.min-end.ensures in (
       omega (arith, c.loop-j.invariant.0),
       omega (arith, c.loop-j.invariant.0, c.loop-j.invariant.1, e),
       firsts_turn a.stop (next_pair (rank_in a.ranks.now) (count_in a.full.now) a.stop (count_in a.cursors.now)) _ _ _ _ _ c.loop-j.invariant.0
@@ -21,11 +21,5 @@ loop-j-preserved c =
 
 pub returns : goal.returns
 returns c =
-    let e = c.least-end.ensures in
+    let e = c.min-end.ensures in
     fold_done _ _ _ _ _ (omega (arith, c.loop-j.invariant.0, c.loop-j.invariant.1)) (omega (arith, c.loop-j.invariant.0, c.loop-j.invariant.1, e)) c.loop-j.invariant.2
-
-pub overflow_mul-j : goal.overflow_mul-j
-overflow_mul-j c = omega (arith, c.requires)
-
-pub overflow_add-j : goal.overflow_add-j
-overflow_add-j c = omega (arith, c.requires)

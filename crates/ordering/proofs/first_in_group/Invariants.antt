@@ -8,6 +8,3 @@ use Rattle.ordering.proofs.first_in_group.Given as goal
 abbrev pub invariant-loop-j : goal.invariant-loop-j
 invariant-loop-j l = (l.g * 4 ≤ l.j) × (l.j - l.g * 4 ≤ min 4 (l.m - l.g * 4))
     × (l.low ≡ first_from l.stop (λ a. next_pair (rank_in l.ranks) (count_in l.full) l.stop (count_in l.cursors) (l.g * 4 + a)) (l.j - l.g * 4))
-
-abbrev pub decreases-loop-j : goal.decreases-loop-j
-decreases-loop-j l = l.end - l.j

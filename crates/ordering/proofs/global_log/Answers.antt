@@ -3,7 +3,7 @@ use mathlib.Core.List.{map}
 use mathlib.Core.Path.{◌∙◌, ap, refl, sym}
 use native.Mathlib.Omega.{arith}
 use Rattle.ordering.proofs.Merge.{sixteen, zeros}
-use Rattle.ordering.proofs.MergePairs.{pair-below, pair-cursor, pair-later, pair-own, pair_turn, pairs_end, pairs_start, stop_small}
+use Rattle.ordering.proofs.MergePairs.{pair-below, pair-cursor, own_pair, pair-later, pair_turn, pairs_end, pairs_start, stop_small}
 use Rattle.ordering.specs.Order.{log_to}
 use Rattle.ordering.specs.Pairs.{number_of}
 use Rattle.ordering.specs.Table.{block_id, count_in, rank_in}
@@ -16,22 +16,34 @@ loop-full-init c =
     c.group_firsts-firsts.ensures c.next_pair-k.ensures
 
 pub overflow_mul-i : goal.overflow_mul-i
-overflow_mul-i c = omega (arith, pair-own c.args.m (rank_in c.args.ranks.now) (count_in c.args.full) c.requires (sixteen c.args.full c.well_formed.1.1.0.1.0.1) _ c.loop-full.invariant.is_bar _ _ _ _ _ _ c.loop-full.invariant (sym c.comes_first.ensures ∙ c.loop-full-test.true))
+overflow_mul-i c = omega (arith, own_pair c.requires (sixteen c.args.full c.well_formed.1.1.0.1.0.1) c.loop-full.invariant c.comes_first.ensures c.loop-full-test.true)
 
 pub overflow_add-i : goal.overflow_add-i
-overflow_add-i c = omega (arith, pair-own c.args.m (rank_in c.args.ranks.now) (count_in c.args.full) c.requires (sixteen c.args.full c.well_formed.1.1.0.1.0.1) _ c.loop-full.invariant.is_bar _ _ _ _ _ _ c.loop-full.invariant (sym c.comes_first.ensures ∙ c.loop-full-test.true), pair-cursor c.args.m (rank_in c.args.ranks.now) (count_in c.args.full) c.requires (sixteen c.args.full c.well_formed.1.1.0.1.0.1) _ c.loop-full.invariant.is_bar _ _ _ _ _ _ c.loop-full.invariant (sym c.comes_first.ensures ∙ c.loop-full-test.true) _ c.count_in-n.ensures)
+overflow_add-i c =
+    omega (
+      arith,
+      own_pair c.requires (sixteen c.args.full c.well_formed.1.1.0.1.0.1) c.loop-full.invariant c.comes_first.ensures c.loop-full-test.true,
+      pair-cursor c.args.m (rank_in c.args.ranks.now) (count_in c.args.full) c.requires (sixteen c.args.full c.well_formed.1.1.0.1.0.1) _ c.loop-full.invariant.is_bar
+          _ _ _ _ _ _ c.loop-full.invariant (sym c.comes_first.ensures ∙ c.loop-full-test.true) _ c.count_in-n.ensures,
+    )
 
 pub overflow_add-cursors : goal.overflow_add-cursors
-overflow_add-cursors c = omega (arith, pair-cursor c.args.m (rank_in c.args.ranks.now) (count_in c.args.full) c.requires (sixteen c.args.full c.well_formed.1.1.0.1.0.1) _ c.loop-full.invariant.is_bar _ _ _ _ _ _ c.loop-full.invariant (sym c.comes_first.ensures ∙ c.loop-full-test.true) _ c.count_in-n.ensures)
+overflow_add-cursors c =
+    omega (
+      arith,
+      pair-cursor c.args.m (rank_in c.args.ranks.now) (count_in c.args.full) c.requires (sixteen c.args.full c.well_formed.1.1.0.1.0.1) _ c.loop-full.invariant.is_bar
+          _ _ _ _ _ _ c.loop-full.invariant (sym c.comes_first.ensures ∙ c.loop-full-test.true) _ c.count_in-n.ensures,
+    )
 
 pub bounds-cursors-at : goal.bounds-cursors-at
-bounds-cursors-at c = omega (arith, pair-own c.args.m (rank_in c.args.ranks.now) (count_in c.args.full) c.requires (sixteen c.args.full c.well_formed.1.1.0.1.0.1) _ c.loop-full.invariant.is_bar _ _ _ _ _ _ c.loop-full.invariant (sym c.comes_first.ensures ∙ c.loop-full-test.true))
+bounds-cursors-at c = omega (arith, own_pair c.requires (sixteen c.args.full c.well_formed.1.1.0.1.0.1) c.loop-full.invariant c.comes_first.ensures c.loop-full-test.true)
 
 pub overflow_add-count : goal.overflow_add-count
 overflow_add-count c =
     omega (
       arith,
-      pair-below c.args.m (rank_in c.args.ranks.now) (count_in c.args.full) c.requires (sixteen c.args.full c.well_formed.1.1.0.1.0.1) _ c.loop-full.invariant.is_bar _ _ _ _ _ _ c.loop-full.invariant (sym c.comes_first.ensures ∙ c.loop-full-test.true),
+      pair-below c.args.m (rank_in c.args.ranks.now) (count_in c.args.full) c.requires (sixteen c.args.full c.well_formed.1.1.0.1.0.1) _ c.loop-full.invariant.is_bar
+          _ _ _ _ _ _ c.loop-full.invariant (sym c.comes_first.ensures ∙ c.loop-full-test.true),
       c.loop-full.invariant.numbers.few,
       c.bar-stop.ensures.1,
       stop_small c.args.m (rank_in c.args.ranks.now) (count_in c.args.full) c.requires (sixteen c.args.full c.well_formed.1.1.0.1.0.1) _ c.loop-full.invariant.is_bar,
@@ -41,14 +53,17 @@ pub loop-full-smaller : goal.loop-full-smaller
 loop-full-smaller c =
     omega (
       arith,
-      pair-below c.args.m (rank_in c.args.ranks.now) (count_in c.args.full) c.requires (sixteen c.args.full c.well_formed.1.1.0.1.0.1) _ c.loop-full.invariant.is_bar _ _ _ _ _ _ c.loop-full.invariant (sym c.comes_first.ensures ∙ c.loop-full-test.true),
-      pair-later c.args.m (rank_in c.args.ranks.now) (count_in c.args.full) c.requires (sixteen c.args.full c.well_formed.1.1.0.1.0.1) _ c.loop-full.invariant.is_bar _ _ _ _ _ _ c.loop-full.invariant (sym c.comes_first.ensures ∙ c.loop-full-test.true) _
+      pair-below c.args.m (rank_in c.args.ranks.now) (count_in c.args.full) c.requires (sixteen c.args.full c.well_formed.1.1.0.1.0.1) _ c.loop-full.invariant.is_bar
+          _ _ _ _ _ _ c.loop-full.invariant (sym c.comes_first.ensures ∙ c.loop-full-test.true),
+      pair-later c.args.m (rank_in c.args.ranks.now) (count_in c.args.full) c.requires (sixteen c.args.full c.well_formed.1.1.0.1.0.1) _ c.loop-full.invariant.is_bar
+          _ _ _ _ _ _ c.loop-full.invariant (sym c.comes_first.ensures ∙ c.loop-full-test.true) _
           c.count_in-n.ensures _ c.first_in_group.ensures _ c.next_pair-k-in-loop-full.ensures,
     )
 
 pub loop-full-preserved : goal.loop-full-preserved
 loop-full-preserved c =
-    pair_turn c.args.m (rank_in c.args.ranks.now) (count_in c.args.full) c.requires (sixteen c.args.full c.well_formed.1.1.0.1.0.1) _ c.loop-full.invariant.is_bar _ _ _ _ _ _ c.loop-full.invariant (sym c.comes_first.ensures ∙ c.loop-full-test.true) _
+    pair_turn c.args.m (rank_in c.args.ranks.now) (count_in c.args.full) c.requires (sixteen c.args.full c.well_formed.1.1.0.1.0.1) _ c.loop-full.invariant.is_bar
+    _ _ _ _ _ _ c.loop-full.invariant (sym c.comes_first.ensures ∙ c.loop-full-test.true) _
     c.count_in-n.ensures _ c.first_in_group.ensures _ c.next_pair-k-in-loop-full.ensures _ c.put.ensures
 
 pub shape_of-out : goal.shape_of-out
@@ -58,29 +73,27 @@ shape_of-out c =
 
 pub returns : goal.returns
 returns c =
-    pairs_end c.args.m (rank_in c.args.ranks.now) (count_in c.args.full) c.requires (sixteen c.args.full c.well_formed.1.1.0.1.0.1) _ c.loop-full.invariant.is_bar _ _ _ _ _ _ c.loop-full.invariant
+    pairs_end c.args.m (rank_in c.args.ranks.now) (count_in c.args.full) c.requires (sixteen c.args.full c.well_formed.1.1.0.1.0.1) _ c.loop-full.invariant.is_bar
+    _ _ _ _ _ _ c.loop-full.invariant
     (sym c.comes_first.ensures ∙ c.loop-full-test.false)
 
 pub overflow_cast-i : goal.overflow_cast-i
-overflow_cast-i c = omega (arith, pair-own c.args.m (rank_in c.args.ranks.now) (count_in c.args.full) c.requires (sixteen c.args.full c.well_formed.1.1.0.1.0.1) _ c.loop-full.invariant.is_bar _ _ _ _ _ _ c.loop-full.invariant (sym c.comes_first.ensures ∙ c.loop-full-test.true))
+overflow_cast-i c = omega (arith, own_pair c.requires (sixteen c.args.full c.well_formed.1.1.0.1.0.1) c.loop-full.invariant c.comes_first.ensures c.loop-full-test.true)
 
 pub overflow_cast-at : goal.overflow_cast-at
-overflow_cast-at c = omega (arith, pair-own c.args.m (rank_in c.args.ranks.now) (count_in c.args.full) c.requires (sixteen c.args.full c.well_formed.1.1.0.1.0.1) _ c.loop-full.invariant.is_bar _ _ _ _ _ _ c.loop-full.invariant (sym c.comes_first.ensures ∙ c.loop-full-test.true))
+overflow_cast-at c = omega (arith, own_pair c.requires (sixteen c.args.full c.well_formed.1.1.0.1.0.1) c.loop-full.invariant c.comes_first.ensures c.loop-full-test.true)
 
 pub offset_bounds-cursors-at : goal.offset_bounds-cursors-at
-offset_bounds-cursors-at c = omega (arith, pair-own c.args.m (rank_in c.args.ranks.now) (count_in c.args.full) c.requires (sixteen c.args.full c.well_formed.1.1.0.1.0.1) _ c.loop-full.invariant.is_bar _ _ _ _ _ _ c.loop-full.invariant (sym c.comes_first.ensures ∙ c.loop-full-test.true))
-
-pub slice_bounds-first_in_group-end : goal.slice_bounds-first_in_group-end
-slice_bounds-first_in_group-end c = sym c.well_formed.1.1.0.1.0.1
+offset_bounds-cursors-at c = omega (arith, own_pair c.requires (sixteen c.args.full c.well_formed.1.1.0.1.0.1) c.loop-full.invariant c.comes_first.ensures c.loop-full-test.true)
 
 pub first_in_group-requires : goal.first_in_group-requires
-first_in_group-requires c = omega (arith, pair-own c.args.m (rank_in c.args.ranks.now) (count_in c.args.full) c.requires (sixteen c.args.full c.well_formed.1.1.0.1.0.1) _ c.loop-full.invariant.is_bar _ _ _ _ _ _ c.loop-full.invariant (sym c.comes_first.ensures ∙ c.loop-full-test.true))
+first_in_group-requires c = omega (arith, own_pair c.requires (sixteen c.args.full c.well_formed.1.1.0.1.0.1) c.loop-full.invariant c.comes_first.ensures c.loop-full-test.true)
 
 pub overflow_cast-firsts : goal.overflow_cast-firsts
-overflow_cast-firsts c = omega (arith, pair-own c.args.m (rank_in c.args.ranks.now) (count_in c.args.full) c.requires (sixteen c.args.full c.well_formed.1.1.0.1.0.1) _ c.loop-full.invariant.is_bar _ _ _ _ _ _ c.loop-full.invariant (sym c.comes_first.ensures ∙ c.loop-full-test.true))
+overflow_cast-firsts c = omega (arith, own_pair c.requires (sixteen c.args.full c.well_formed.1.1.0.1.0.1) c.loop-full.invariant c.comes_first.ensures c.loop-full-test.true)
 
 pub offset_bounds-firsts-g : goal.offset_bounds-firsts-g
-offset_bounds-firsts-g c = omega (arith, pair-own c.args.m (rank_in c.args.ranks.now) (count_in c.args.full) c.requires (sixteen c.args.full c.well_formed.1.1.0.1.0.1) _ c.loop-full.invariant.is_bar _ _ _ _ _ _ c.loop-full.invariant (sym c.comes_first.ensures ∙ c.loop-full-test.true))
+offset_bounds-firsts-g c = omega (arith, own_pair c.requires (sixteen c.args.full c.well_formed.1.1.0.1.0.1) c.loop-full.invariant c.comes_first.ensures c.loop-full-test.true)
 
 pub bounds-firsts-g : goal.bounds-firsts-g
-bounds-firsts-g c = omega (arith, pair-own c.args.m (rank_in c.args.ranks.now) (count_in c.args.full) c.requires (sixteen c.args.full c.well_formed.1.1.0.1.0.1) _ c.loop-full.invariant.is_bar _ _ _ _ _ _ c.loop-full.invariant (sym c.comes_first.ensures ∙ c.loop-full-test.true))
+bounds-firsts-g c = omega (arith, own_pair c.requires (sixteen c.args.full c.well_formed.1.1.0.1.0.1) c.loop-full.invariant c.comes_first.ensures c.loop-full-test.true)

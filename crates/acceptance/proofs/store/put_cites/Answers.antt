@@ -9,7 +9,7 @@ pub loop-q-init : goal.loop-q-init
 loop-q-init c = (omega arith, written_none _ _ _)
 
 pub loop-q-preserved : goal.loop-q-preserved
-loop-q-preserved c = (omega arith, c.put_cell.ensures ∙ written_turn _ _ _ _ _ _ c.loop-q.invariant.1 c.cite.ensures)
+loop-q-preserved c = (omega arith, c.put.ensures ∙ written_turn _ _ _ _ _ _ c.loop-q.invariant.1 c.cite.ensures)
 
 pub shape_of-cites : goal.shape_of-cites
 shape_of-cites c = ap length c.loop-q.invariant.1 ∙ length-written _ _ _ _

@@ -9,7 +9,7 @@ pub loop-e-init : goal.loop-e-init
 loop-e-init c = (omega arith, written_none _ _ _)
 
 pub loop-e-preserved : goal.loop-e-preserved
-loop-e-preserved c = (omega arith, c.put_cell.ensures ∙ written_turn _ _ _ _ _ _ c.loop-e.invariant.1 c.count_at.ensures)
+loop-e-preserved c = (omega arith, c.put.ensures ∙ written_turn _ _ _ _ _ _ c.loop-e.invariant.1 c.count_at.ensures)
 
 pub shape_of-cuts : goal.shape_of-cuts
 shape_of-cuts c = ap length c.loop-e.invariant.1 ∙ length-written _ _ _ _

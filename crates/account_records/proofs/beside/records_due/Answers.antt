@@ -2,10 +2,10 @@ use mathlib.Core.Path.{refl, ap}
 use Rattle.sums.specs.Test.{given}
 use Rattle.account_records.proofs.beside.records_due.Goals as goal
 
-pub returns-in-Refused : goal.returns-in-Refused
+pub returns-in-Err : goal.returns-in-Err
 unfolding given
-returns-in-Refused c = rw c.in-Refused.is refl
+returns-in-Err c = rw c.in-Err.is refl
 
-pub returns-in-Fine : goal.returns-in-Fine
+pub returns-in-Ok : goal.returns-in-Ok
 unfolding given
-returns-in-Fine c = rw c.in-Fine.is (ap (λ z. z.a) c.sizes-z.ensures)
+returns-in-Ok c = rw c.in-Ok.is (ap (λ z. z.a) c.sizes-z.ensures)

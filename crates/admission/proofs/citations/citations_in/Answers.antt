@@ -8,7 +8,7 @@ use Rattle.admission.proofs.citations.citations_in.Goals as goal
 
 pub loop-k-init : goal.loop-k-init
 unfolding tabulate
-loop-k-init c = (omega arith, omega (arith, c.at_most-count.ensures), refl, refl)
+loop-k-init c = (omega arith, omega (arith, c.min-count.ensures), refl, refl)
 
 pub overflow_cast-k : goal.overflow_cast-k
 overflow_cast-k c = omega arith
@@ -29,4 +29,4 @@ pub loop-k-preserved : goal.loop-k-preserved
 loop-k-preserved c = let l = c.loop-k in (omega arith, l.invariant.1, length-set l.numbers l.k _ ∙ l.invariant.2, filling_more l.numbers l.k _ _ (omega arith) l.invariant.3 (cite-of _ _ _ _ _ c.cites-list.ensures c.cite_at.ensures))
 
 pub returns : goal.returns
-returns c = body-filled _ _ _ _ _ _ c.u16_at.ensures c.at_most-count.ensures c.loop-k.invariant.2 c.loop-k.invariant.0 c.loop-k-test.false c.loop-k.invariant.3
+returns c = body-filled _ _ _ _ _ _ c.u16_at.ensures c.min-count.ensures c.loop-k.invariant.2 c.loop-k.invariant.0 c.loop-k-test.false c.loop-k.invariant.3

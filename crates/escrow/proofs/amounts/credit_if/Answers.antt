@@ -1,9 +1,10 @@
+use mathlib.Core.Path.{◌∙◌, sym}
 use native.Mathlib.Omega.{arith}
-use Rattle.escrow.proofs.AmountCells.{credit-paid, credit_unpaid}
+use Rattle.sums.proofs.TestLaws.{given_false, given_true}
 use Rattle.escrow.proofs.amounts.credit_if.Goals as goal
 
-pub returns-then-status_at-eq1 : goal.returns-then-status_at-eq1
-returns-then-status_at-eq1 c = (credit-paid _ _ _ _ _ c.status_at.ensures.1 _ c.credit_on.ensures.0 c.if-status_at-eq1.true, c.credit_on.ensures.1)
+pub returns-then-is_paid : goal.returns-then-is_paid
+returns-then-is_paid c = (c.credit_on.ensures.0 ∙ sym (given_true _ _ (sym c.is_paid.ensures ∙ c.if-is_paid.true)), c.credit_on.ensures.1)
 
-pub returns-else-status_at-eq1 : goal.returns-else-status_at-eq1
-returns-else-status_at-eq1 c = (credit_unpaid _ _ _ _ _ c.status_at.ensures.1 c.if-status_at-eq1.false, omega arith)
+pub returns-else-is_paid : goal.returns-else-is_paid
+returns-else-is_paid c = (sym (given_false _ _ (sym c.is_paid.ensures ∙ c.if-is_paid.false)), omega arith)

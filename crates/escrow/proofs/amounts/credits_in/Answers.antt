@@ -22,7 +22,19 @@ pub loop-x-smaller : goal.loop-x-smaller
 loop-x-smaller c = omega arith
 
 pub loop-x-preserved : goal.loop-x-preserved
-loop-x-preserved c = (omega arith, omega (arith, c.loop-x.invariant.1, c.credit_if-sum.ensures.0, sum_next c.loop-x.x (λ y. given (is_paid (status_in c.args.z c.args.table.now y)) (amount_on (tx_at (sheet_in c.args.sheet.now c.args.z) y).credits c.args.k))), omega (arith, c.credit_if-sum.ensures.1, c.loop-x.invariant.2), c.loop-x.invariant.3)
+loop-x-preserved c = (
+  omega arith,
+  omega (
+    arith,
+    c.loop-x.invariant.1,
+    c.credit_if-sum.ensures.0,
+    sum_next c.loop-x.x
+        (λ y. given (is_paid (status_in c.args.z c.args.table.now y)) (amount_on (tx_at (sheet_in c.args.sheet.now c.args.z) y).credits c.args.k)),
+  ),
+  omega
+      (arith, c.credit_if-sum.ensures.1, c.loop-x.invariant.2),
+  c.loop-x.invariant.3,
+)
 
 pub returns : goal.returns
 returns c = (credits_end _ _ _ _ _ _ c.loop-x.invariant.0 c.loop-x-test.false c.loop-x.invariant.1, omega (arith, c.loop-x.invariant.2, c.loop-x.invariant.3))

@@ -9,7 +9,8 @@ use Rattle.sums.specs.Test.{given}
 use Rattle.escrow.proofs.amounts.credits_in.Given as goal
 
 abbrev pub invariant-loop-x : goal.invariant-loop-x
-invariant-loop-x l = (l.x ≤ l.t) × (l.sum ≡ sum_to l.x (λ y. given (is_paid (status_in l.z l.table y)) (amount_on (tx_at (sheet_in l.sheet l.z) y).credits l.k))) × (l.sum ≤ l.x * 1095216660225) × (l.t ≤ 65535)
+invariant-loop-x l = (l.x ≤ l.z.t) × (l.sum ≡ sum_to l.x (λ y. given (is_paid (status_in l.z l.table y)) (amount_on (tx_at (sheet_in l.sheet l.z) y).credits l.k))) ×
+    (l.sum ≤ l.x * 1095216660225) × (l.z.t ≤ 65535)
 
 abbrev pub decreases-loop-x : goal.decreases-loop-x
-decreases-loop-x l = l.t - l.x
+decreases-loop-x l = l.z.t - l.x

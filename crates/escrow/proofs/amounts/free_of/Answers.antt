@@ -1,4 +1,3 @@
-use mathlib.Core.Path.{refl}
 use native.Mathlib.Omega.{arith}
 use Rattle.escrow.proofs.AmountCells.{free-some}
 use Rattle.escrow.proofs.amounts.free_of.Goals as goal
@@ -6,8 +5,5 @@ use Rattle.escrow.proofs.amounts.free_of.Goals as goal
 pub overflow_add-up : goal.overflow_add-up
 overflow_add-up c = omega (arith, c.balance_at.ensures.1, c.credits_in.ensures.1)
 
-pub returns-then-down-up : goal.returns-then-down-up
-returns-then-down-up c = free-some _ _ _ _ c.args.view _ _ _ _ c.home_of-h.ensures c.count_at.ensures _ _ _ c.balance_at.ensures.0 c.credits_in.ensures.0 c.debits_out-down.ensures.0 _ refl
-
-pub returns-else-down-up : goal.returns-else-down-up
-returns-else-down-up c = free-some _ _ _ _ c.args.view _ _ _ _ c.home_of-h.ensures c.count_at.ensures _ _ _ c.balance_at.ensures.0 c.credits_in.ensures.0 c.debits_out-down.ensures.0 0 (omega arith)
+pub returns : goal.returns
+returns c = free-some _ _ _ _ c.args.view _ _ _ _ c.home_of-h.ensures c.count_at.ensures _ _ _ c.balance_at.ensures.0 c.credits_in.ensures.0 c.debits_out-down.ensures.0 _ c.saturating_sub.ensures

@@ -1,7 +1,6 @@
 use borrow.Author.Rules.{rules}
 use lib.ListN.{length}
-use lib.Seq.{length-sets}
-use mathlib.Core.Path.{◌∙◌, ◌≡◌, ap, refl}
+use mathlib.Core.Path.{◌≡◌, refl}
 use native.Mathlib.Omega.{arith}
 use Rattle.encoding.specs.Body.{balances_body}
 use Rattle.fields.proofs.RowLaws.{rows_none}
@@ -14,9 +13,6 @@ loop-k-init c = (search rules, rw rows_none refl)
 
 pub loop-k-preserved : goal.loop-k-preserved
 loop-k-preserved c = (omega arith, numbers_more 8 c.args.out.now c.args.list.now 0 c.loop-k.k (omega arith) c.loop-k.invariant.1 c.put_u64.ensures)
-
-pub shape_of-out : goal.shape_of-out
-shape_of-out c = ap length c.loop-k.invariant.1 ∙ simp length-sets
 
 pub returns : goal.returns
 unfolding balances_body list_bytes

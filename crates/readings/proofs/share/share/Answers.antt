@@ -1,17 +1,27 @@
-use mathlib.Core.Path.{sym, ◌∙◌, ap}
-use Rattle.state.specs.State.{kept}
-use Rattle.settlement.specs.Tables.{buffers}
+use Rattle.std.proofs.Common.{Err, rules}
 use mathlib.Core.List.{[]}
+use mathlib.Core.Path.{◌∙◌, ◌≡◌, ap, sym}
+use Rattle.admission.specs.Replies.{reply_to}
 use Rattle.readings.proofs.CallLaws.{answer-share, share_told}
 use Rattle.readings.proofs.ReadLaws.{reads-refused}
-use Rattle.admission.specs.Replies.{reply_to}
+use Rattle.settlement.specs.Tables.{buffers}
+use Rattle.state.specs.State.{kept}
 use Rattle.readings.proofs.share.share.Goals as goal
 
 pub settle_full-registers-requires : goal.settle_full-registers-requires
-settle_full-registers-requires c = sym c.check_buffers.ensures ∙ ap reply_to c.in-Fine.is
+settle_full-registers-requires c = sym c.check_buffers.ensures ∙ ap reply_to c.in_ok-check_buffers.was
 
-pub returns-in-Refused : goal.returns-in-Refused
-returns-in-Refused c = reads-refused _ _ _ _ _ _ _ c.in-Refused.is (answer-share c.args.ledger (kept c.args.sheet.now c.args.ranks.now [] c.args.cites.now c.args.good.now) (buffers c.args.counts.now c.args.table.now c.args.order.now) c.check_buffers.result c.check_buffers.ensures)
+pub returns-in_err-check_buffers : goal.returns-in_err-check_buffers
+returns-in_err-check_buffers c =
+    let s = c.args in
+    let K = kept s.sheet.now s.ranks.now [] s.cites.now s.good.now in
+    let W = buffers s.counts.now s.table.now s.order.now in
+    let e : c.from_residual.result ≡ Err c.in_err-check_buffers.field-0.0 = search rules in
+    rw e (reads-refused _ _ _ _ _ _ _ c.in_err-check_buffers.was (answer-share s.ledger K W c.check_buffers.result c.check_buffers.ensures))
 
-pub returns-in-Fine : goal.returns-in-Fine
-returns-in-Fine c = share_told c.args.ledger (kept c.args.sheet.now c.args.ranks.now [] c.args.cites.now c.args.good.now) (buffers c.args.counts.now c.args.table.now c.args.order.now) c.check_buffers.result c.check_buffers.ensures c.in-Fine.is _ _ c.settle_full-registers.ensures c.sizes.result c.sizes.ensures _ c.share_of.ensures
+pub returns : goal.returns
+returns c =
+    let s = c.args in
+    let K = kept s.sheet.now s.ranks.now [] s.cites.now s.good.now in
+    let W = buffers s.counts.now s.table.now s.order.now in
+    share_told s.ledger K W c.check_buffers.result c.check_buffers.ensures c.in_ok-check_buffers.was _ _ c.settle_full-registers.ensures c.sizes.result c.sizes.ensures _ c.share_of.ensures

@@ -1,3 +1,4 @@
+use Rattle.std.specs.Result.{result_unwrap_or}
 use Rattle.rugxeni.proofs.CallLaws.{read_short, read_done}
 use Rattle.admission.specs.Replies.{reply_to}
 use Rattle.rugxeni.proofs.log.rugxeni_log.Goals as goal
@@ -6,4 +7,4 @@ pub returns-then-numbers-lt22 : goal.returns-then-numbers-lt22
 returns-then-numbers-lt22 c = read_short c.if-numbers-lt22.true c.say_short.ensures
 
 pub returns : goal.returns
-returns c = read_done c.if-numbers-lt22.false c.ledger_in.result (reply_to c.log-done.result.answer) c.log-done.result.value c.ledger_in.ensures c.log-done.ensures c.say_reading.ensures
+returns c = read_done c.if-numbers-lt22.false c.ledger_in.result (reply_to c.log-done.result) (result_unwrap_or c.log-done.result 0) c.ledger_in.ensures c.log-done.ensures c.say_number.ensures

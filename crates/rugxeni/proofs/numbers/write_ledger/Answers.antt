@@ -20,7 +20,7 @@ pub loop-i-smaller : goal.loop-i-smaller
 loop-i-smaller c = omega arith
 
 pub loop-i-preserved : goal.loop-i-preserved
-loop-i-preserved c = (omega arith, c.put_number.ensures ∙ front_turn _ _ _ _ _ c.loop-i.invariant.1 c.number_of.ensures)
+loop-i-preserved c = (omega arith, c.put.ensures ∙ front_turn _ _ _ _ _ c.loop-i.invariant.1 c.number_of.ensures)
 
 pub shape_of-numbers : goal.shape_of-numbers
 shape_of-numbers c = ap length c.loop-i.invariant.1 ∙ length-written _ _ _ _

@@ -1,3 +1,4 @@
+use mathlib.Core.Path.{refl}
 use Rattle.rugxeni.proofs.CallLaws.{offer-short, offer_done}
 use Rattle.rugxeni.proofs.offering.rugxeni_offer_frame.Goals as goal
 
@@ -5,4 +6,4 @@ pub returns-then-numbers-lt22 : goal.returns-then-numbers-lt22
 returns-then-numbers-lt22 c = offer-short c.if-numbers-lt22.true c.say_short.ensures
 
 pub returns : goal.returns
-returns c = offer_done c.if-numbers-lt22.false c.ledger_in.result c.offer_frame-done.result c.ledger_in.ensures c.offer_frame-done.ensures c.is_accepted.ensures c.keep_ledger.ensures c.say_offer.ensures
+returns c = offer_done c.if-numbers-lt22.false c.ledger_in.result c.offer_frame-done.result c.ledger_in.ensures c.offer_frame-done.ensures refl c.conclude.ensures.kept c.conclude.ensures.said

@@ -5,4 +5,4 @@ pub returns-then-numbers-lt22 : goal.returns-then-numbers-lt22
 returns-then-numbers-lt22 c = write-short c.if-numbers-lt22.true c.say_short.ensures
 
 pub returns : goal.returns
-returns c = write_done c.if-numbers-lt22.false c.ledger_in-ledger.result c.write_balances-done.result c.ledger_in-ledger.ensures c.write_balances-done.ensures c.say_written.ensures
+returns c = write_done c.if-numbers-lt22.false c.ledger_in-ledger.result c.write_balances-done.result c.ledger_in-ledger.ensures c.write_balances-done.ensures c.say_length.ensures

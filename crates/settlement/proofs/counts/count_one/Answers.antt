@@ -1,5 +1,5 @@
-use Rattle.settlement.proofs.CountCells.{count_of}
+use Rattle.settlement.proofs.CountCells.{counted_one}
 use Rattle.settlement.proofs.counts.count_one.Goals as goal
 
 pub returns : goal.returns
-returns c = count_of _ _ _ _ _ c.args.good c.failure.ensures c.add_at.ensures c.add_at-2.ensures
+returns c = counted_one _ _ _ _ _ c.args.good c.from.ensures c.add_at.ensures c.add_at-2.ensures

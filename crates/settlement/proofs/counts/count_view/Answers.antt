@@ -19,7 +19,11 @@ loop-j-smaller c = omega arith
 
 pub loop-j-preserved : goal.loop-j-preserved
 unfolding count_rows
-loop-j-preserved c = (omega arith, fold_turn _ _ _ _ _ c.loop-j.invariant.1 (c.count_row.ensures ∙ ap (λ (n : ℕ). count_row c.args.t c.args.cites.now c.args.good.now c.loop-j.j n c.loop-j.counts) c.count_at.ensures))
+loop-j-preserved c = (
+  omega arith,
+  fold_turn _ _ _ _ _ c.loop-j.invariant.1 (c.count_row.ensures ∙ ap
+      (λ (n : ℕ). count_row c.args.t c.args.cites.now c.args.good.now c.loop-j.j n c.loop-j.counts) c.count_at.ensures),
+)
 
 pub shape_of-counts : goal.shape_of-counts
 shape_of-counts c = ap length c.loop-j.invariant.1 ∙ rows_length _ _ _ _ _ _

@@ -5,7 +5,7 @@ use Rattle.sheets.specs.Sheet.{sheet_in}
 use Rattle.settlement.proofs.settle.pay_all.Given as goal
 
 abbrev pub invariant-loop-x : goal.invariant-loop-x
-invariant-loop-x l = (l.x ≤ l.t) × (l.t ≡ l.z.t) × (l.table ≡ pay_to (sheet_in l.sheet l.z) l.counts l.x l.initial.table)
+invariant-loop-x l = (l.x ≤ l.z.t) × (l.table ≡ pay_to (sheet_in l.sheet l.z) l.counts l.x l.initial.table)
 
 abbrev pub decreases-loop-x : goal.decreases-loop-x
-decreases-loop-x l = l.t - l.x
+decreases-loop-x l = l.z.t - l.x

@@ -1,2 +1,0 @@
--- Texts compared byte by byte.
-pub mod SameLaws
