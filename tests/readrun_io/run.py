@@ -16,7 +16,8 @@ import tempfile
 
 sys.dont_write_bytecode = True
 from first_use import first_use
-from trial import EXAMPLES, HERE, PROGRAM, ROOT, SCRIPT, UNREAD, UNWRITTEN, WAIT, alive, both, ended, example, judge, on_terminal, run, started, until, verdicts
+from trial import EXAMPLES, FIRST_USE, HERE, PROGRAM, ROOT, SCRIPT, UNREAD, UNWRITTEN, WAIT, alive, both, ended, example, judge
+from trial import on_terminal, run, started, until, verdicts
 
 
 def faulty(calls):
@@ -143,7 +144,7 @@ if __name__ == "__main__":
         LIBRARY = os.path.join(made, "calls.so")
         subprocess.run(["cc", "-shared", "-fPIC", "-O1", "-o", LIBRARY, os.path.join(HERE, "calls.c")], check=True)
         # Where the program was built by another command, the script's first use says so.
-        judge("the script", run([SCRIPT, os.path.join(EXAMPLES, "worked.run")])[::2], (example("worked.reading"), 0))
+        judge("the script", run([SCRIPT, os.path.join(EXAMPLES, "worked.run")], seconds=FIRST_USE)[::2], (example("worked.reading"), 0))
         whole_readings()
         failed_reads()
         failed_writes()

@@ -11,8 +11,9 @@ SCRIPT = os.path.join(ROOT, "readrun")
 EXAMPLES = os.path.join(ROOT, "examples")
 UNREAD = b"readrun: the run could not be read\n"
 UNWRITTEN = b"readrun: the reading could not be written\n"
-# Seconds after which a case has hung.
+# Seconds after which a case has hung; and a first use, which proves and builds the program.
 WAIT = 20
+FIRST_USE = 600
 
 verdicts = []
 
@@ -33,20 +34,20 @@ def started(words, **more):
     return subprocess.Popen(words, stderr=subprocess.PIPE, **more)
 
 
-def ended(process, sent=None):
+def ended(process, sent=None, seconds=WAIT):
     """What it printed, what it said, and its status."""
     try:
-        out, err = process.communicate(sent, timeout=WAIT)
+        out, err = process.communicate(sent, timeout=seconds)
     except subprocess.TimeoutExpired:
         process.kill()
         return None, None, "no end"
     return out, err, process.returncode
 
 
-def run(words, sent=None, **more):
+def run(words, sent=None, seconds=WAIT, **more):
     if sent is not None:
         more["stdin"] = subprocess.PIPE
-    return ended(started(words, **more), sent)
+    return ended(started(words, **more), sent, seconds)
 
 
 def both(name, out, err, status, **more):
