@@ -16,7 +16,8 @@ ALLOWED = {
     "ordering::global_log",
     "settlement::settle::settle",
 }
-SIGNATURE = re.compile(r'^pub (?:extern "C" )?fn (\w+)(.*?)^\{', re.M | re.S)
+# Methods, too, and functions with type parameters.
+SIGNATURE = re.compile(r'^( *)pub (?:extern "C" )?fn (\w+)(.*?)^\1\{', re.M | re.S)
 
 
 def public_files(crate):
@@ -31,7 +32,7 @@ def main():
     found, seen = set(), 0
     for root in sorted(glob.glob("crates/*/src/lib.rt")):
         for module, path in public_files(root.split("/")[1]):
-            for name, contract in SIGNATURE.findall(open(path, encoding="utf-8").read()):
+            for _, name, contract in SIGNATURE.findall(open(path, encoding="utf-8").read()):
                 seen += 1
                 if re.search(r"^ +requires\*?(?: \w+)? \{", contract, re.M):
                     found.add(f"{module}::{name}")

@@ -27,7 +27,7 @@ import tries
 import verdicts
 
 FUNCTION = re.compile(r'^ *(?:#\[unsafe\(no_mangle\)\]\s+)?(?:pub(?:\(\w+\))? )?(?:extern "C" )?fn (\w+)', re.M)
-IMPL = re.compile(r"^impl(?:<[^{]*?>)? (?:[^{]* for )?(\w+)", re.M)
+IMPL = re.compile(r"^impl(?:<[^{]*?>)? (?:([^{]*) for )?(\w+)", re.M)
 HEAD = re.compile(r"# (\w+)(?: \(([\w, ]+)\))?(?: \[(\w+)\.([\w-]+): ([\w-]+)\])?: ")
 # words and signs of code, to be counted
 WORD = re.compile(r"b?'(?:\\.|[^'])'|\w+|[<>=!]=|&&|\|\||\S")
@@ -96,6 +96,12 @@ def engines(path):
     return found
 
 
+def owner_of(trait, name):
+    """What the prover calls an impl: `Lists`, or of a trait `AnswerFromResultUnitRefusal`."""
+    words = re.findall(r"\w+", trait.replace("()", "Unit"))
+    return "".join(word[0].upper() + word[1:] for word in [name, *words]) if words else name
+
+
 def changed_function(crate, file, old, _new):
     """The path of the function that a replacement changes, as ('lists', 'debits'), of a method with its type before it; None where it changes a definition."""
     if not file.endswith(".rt"):
@@ -103,7 +109,7 @@ def changed_function(crate, file, old, _new):
     text = read(f"crates/{crate}/{file}")
     end = text.index(old) + len(old)
     found = [m for m in FUNCTION.finditer(text) if m.start() < end][-1]
-    owner = [m[1] for m in IMPL.finditer(text) if m.start() < end][-1:] if found[0].startswith(" ") else []
+    owner = [owner_of(*m.groups("")) for m in IMPL.finditer(text) if m.start() < end][-1:] if found[0].startswith(" ") else []
     module = os.path.splitext(os.path.relpath(file, "src"))[0]
     return (*([] if module in ("lib", "main") else module.split("/")), *owner, found[1])
 
@@ -195,7 +201,8 @@ def public_functions(crate):
         return []
     modules = re.findall(r"^pub mod (\w+);", read(root), re.M)
     text = "\n".join(read(path) for path in [root] + [f"crates/{crate}/src/{m}.rt" for m in modules])
-    return re.findall(r'^ *pub (?:extern "C" )?fn (\w+)', text, re.M)
+    conversions = ["from"] if re.search(r"^impl From<", text, re.M) else []
+    return re.findall(r'^ *pub (?:extern "C" )?fn (\w+)', text, re.M) + conversions
 
 
 def function_rows(few):

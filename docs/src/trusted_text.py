@@ -5,7 +5,7 @@
     trusted_text.py --write    writes them into docs/generated/trusted-text.md
     trusted_text.py --check    compares them with that file
 
-Roots are the contracts (`requires`, `ensures`) of the crates that a user calls, and the claim of demand 3. From there every
+Roots are the contracts (`requires`, `ensures`, and of an `impl From` its law) of the crates that a user calls, and the claim of demand 3. From there every
 definition of `specs/` that a definition names is followed. Lines are counted without comments, `use` lines and empty lines."""
 import glob
 import os
@@ -30,6 +30,10 @@ GROUPS = [
     ("the bounds on what is lent", [("extent", "Claim", "TextFits"), ("extent", "Buffers", "BuffersFit"), ("report", "Reports", "ReportFits")], []),
 ]
 WORD = re.compile(r"[^\s()\[\]{},;⌜⌝]+")
+# A function or a method, with its contract; and the law of a conversion.
+FUNCTION = re.compile(r'^( *)pub (?:extern "C" )?fn \w+[<(].*?^\1\{', re.M | re.S)
+CLAUSE = re.compile(r"(?:requires|ensures)(?: \w+)? \{(.*?)\}\n", re.S)
+LAW = re.compile(r"^    ghost \w+ = \{(.*?)\};$", re.M | re.S)
 MODIFIER = {"pub", "unfoldable", "abbrev", "record", "data", "instance", "infixl", "infixr", "infix"}
 
 
@@ -121,10 +125,10 @@ def cited(crate, files):
     for src in public_files(crate):
         text = open(src, encoding="utf-8").read()
         names, aliases = imports(text.split("\n"))
-        for m in re.finditer(r"pub (?:extern \"C\" )?fn \w+\(.*?\n\{", text, re.S):
-            for clause in re.findall(r"(?:requires|ensures)(?: \w+)? \{(.*?)\}\n", m.group(0), re.S):
-                for word in WORD.findall(clause):
-                    yield from resolve(word, crate, "", files, names, aliases)
+        clauses = [c for m in FUNCTION.finditer(text) for c in CLAUSE.findall(m[0])]
+        for clause in clauses + LAW.findall(text):
+            for word in WORD.findall(clause):
+                yield from resolve(word, crate, "", files, names, aliases)
 
 
 def reached(roots, files):

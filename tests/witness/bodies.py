@@ -3,7 +3,7 @@
 Of a crate NAME there are copies in a repository of their own, one for each change and one with nothing changed. They are run, unproved and with the checks of
 `rt try` (an index out of bounds, a sum that wraps, a bad access end the run), by programs/NAME.txt, and by NAME.MORE.txt where there are some: expectations,
 each of which follows from the contracts of NAME's functions. A build takes long, so that one program has all copies, and runs the one whose number it reads.
-Those of `stored_runs` are run by that program itself, on a group of its stored runs and on wrong readings.
+Those of `stored_runs` are run by that program itself, on a group of its stored runs and on wrong readings, and those of `readrun` on the run that lies beside it.
 
 With the proved bodies each program ends as it should. Every function but the changed one is the proved one, and what a program looks at is fixed by
 contracts: a body that keeps its contract ends the program so, too. One with which it ends otherwise does not keep it. A program that is stopped for
@@ -24,6 +24,7 @@ LIBRARY = "expectations"
 PROGRAM = "witness"
 COPIES = 32  # in one build
 STORED = "stored_runs"
+READER = "readrun"
 # of the groups that the program reads, one as it is, and one whose readings are wrong here
 RIGHT, WRONG = "edges", "generated"
 FAULT = re.compile(r"^\w+: (fault .*)\n", re.M)
@@ -93,8 +94,26 @@ def make_room(room, crate, name, below, changes):
     write(f"{room}/crates.txt", "\n".join(lines) + "\n")
 
 
-def tried(folder, words):
-    return subprocess.run(["rt", "try", *words], cwd=folder, stdin=subprocess.DEVNULL, capture_output=True, text=True, errors="replace")
+def tried(folder, words, sent=b""):
+    done = subprocess.run(["rt", "try", *words], cwd=folder, input=sent, capture_output=True)
+    return subprocess.CompletedProcess(done.args, done.returncode, *(out.decode(errors="replace") for out in (done.stdout, done.stderr)))
+
+
+def make_program(room, crate, below, change):
+    """A repository with the program, changed, and what it rests on."""
+    os.makedirs(f"{room}/.git")
+    for it in [*below[crate], crate]:
+        shutil.copytree(f"crates/{it}/src", f"{room}/crates/{it}/src")
+    if change and tries.apply(change.replacements, f"{room}/crates/{crate}"):
+        sys.exit(f"{crate}/{change.label}: not applied")
+    write(f"{room}/crates.txt", "".join(f"{it}: {' '.join(below[it])}\n" for it in [*below[crate], crate]))
+
+
+def outcome(crate, done, wanted):
+    """How a program ended that should print what is wanted, and the words for it."""
+    if not re.search(r"run=(ended|fault|differs)", done.stderr):
+        sys.exit(f"{crate} was not run to its end:\n{done.stdout}{done.stderr}")
+    return ENDED if done.returncode == 0 and done.stdout == wanted else SHOWN, f"{crate}: {done.stdout}{done.stderr}"
 
 
 def run_copies(room, crate, name, below, changes):
@@ -130,21 +149,25 @@ def run_stored(room, below, changes):
     wanted = f"{RIGHT}: {agree} runs, {agree} agree\n{WRONG}: {len(entries)} runs, 0 agree\n{agree + len(entries)} runs, {agree} agree\n"
     found = []
     for change in changes:
-        os.makedirs(f"{room}/.git")
-        for it in [*below[STORED], STORED]:
-            shutil.copytree(f"crates/{it}/src", f"{room}/crates/{it}/src")
-        if change and tries.apply(change.replacements, f"{room}/crates/{STORED}"):
-            sys.exit(f"{STORED}/{change.label}: not applied")
-        write(f"{room}/crates.txt", "".join(f"{it}: {' '.join(below[it])}\n" for it in [*below[STORED], STORED]))
+        make_program(room, STORED, below, change)
         shutil.copy(f"crates/{STORED}/data/{RIGHT}", room)
         with open(f"{room}/{WRONG}", "wb") as out:
             out.write(b"".join(entries))
         done = tried(f"{room}/crates/{STORED}", [word for it in (RIGHT, WRONG) for word in ("--data", f"{it}={room}/{it}")])
         shutil.rmtree(room)
-        if not re.search(r"run=(ended|fault|differs)", done.stderr):
-            sys.exit(f"{STORED} was not run to its end:\n{done.stdout}{done.stderr}")
-        as_wanted = done.returncode == 0 and done.stdout == wanted
-        found.append((ENDED if as_wanted else SHOWN, f"{STORED}: {done.stdout}{done.stderr}"))
+        found.append(outcome(STORED, done, wanted))
+    return found
+
+
+def run_reader(room, below, changes):
+    """The same of the program `readrun`."""
+    with open(f"crates/{READER}/stdin", "rb") as run:
+        sent = run.read()
+    found = []
+    for change in changes:
+        make_program(room, READER, below, change)
+        found.append(outcome(READER, tried(f"{room}/crates/{READER}", [], sent), wrong_engines.read(f"crates/{READER}/stdout")))
+        shutil.rmtree(room)
     return found
 
 
@@ -152,6 +175,8 @@ def outcomes(room, crate, below, changes):
     """Of each change of a crate how it was seen to end, and the words for it; None for nothing changed."""
     if crate == STORED:
         return run_stored(room, below, changes)
+    if crate == READER:
+        return run_reader(room, below, changes)
     found = [(ENDED, "")] * len(changes)
     for path in sorted(glob.glob(f"{HERE}/programs/*.txt")):
         name = os.path.basename(path)[:-4]

@@ -6,3 +6,4 @@ pub mod block;
 pub mod citations;
 mod cites;
 mod entries;
+pub mod replies;

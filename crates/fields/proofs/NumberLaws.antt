@@ -1,12 +1,13 @@
 -- Reading numbers and writing them: each is the inverse of the other.
 -- Assumes nothing.
 use Prim.Native.Nat.{◌%◌, ◌*◌, ◌+◌, ◌/◌, ◌<◌, ◌^◌, ◌≤◌, suc, zero, ℕ}
+use lib.Arith.{digits_div, digits_mod, mod-mul}
 use lib.Dec.{lit<}
-use lib.ListN.{get_or-append, drop, get_or, length, length-drop, take}
+use lib.ListN.{get_or-append, get_or-eq_default, drop, get_or, length, length-drop, take}
 use lib.Seq.{drop-drop, get_or-append-add, get_or-drop, take-add}
 use mathlib.Core.List.{List, [], ◌++◌, ◌∷◌}
 use mathlib.Core.Path.{◌∙◌, ◌≡◌, ap, refl, sym}
-use native.Mathlib.Nat.{add-mul-div_left, add-mul-mod_self_left, add-suc, add-zero, div-div-eq-div-mul, div-eq_of_lt, div-lt_iff_lt-mul, div-one, mod-add-div, mod-eq_of_lt, mul_assoc, not-suc-le-zero, pow-suc, pow-succ', suc-add, zero-add}
+use native.Mathlib.Nat.{add-mul-div_left, add-mul-mod_self_left, add-suc, add-zero, div-div-eq-div-mul, div-eq_of_lt, div-lt_iff_lt-mul, div-one, mod-add-div, mod-eq_of_lt, mod-lt, mul_assoc, not-suc-le-zero, one-le-pow, pow-suc, pow-succ', suc-add, zero-add}
 use native.Mathlib.Numerals.{add-one}
 use native.Mathlib.Omega.{arith}
 use Rattle.fields.specs.Number.{AreBytes, le, le_bytes}
@@ -16,6 +17,12 @@ use Rattle.std.specs.Int.{byte_at, byte_worth, bytes_low_first, sum_through}
 pub le-one : (s : List ℕ) (at : ℕ) → le 1 s at ≡ get_or s at 0
 unfolding le
 le-one s at = omega arith
+
+-- past the end of the list there are zeros
+pub le-past : (n : ℕ) (s : List ℕ) (at : ℕ) → length s ≤ at → le n s at ≡ 0
+unfolding le
+le-past zero s at h = refl
+le-past (suc n) s at h = simp (get_or-eq_default s 0 h, le-past n s (suc at) (omega arith)) (omega arith)
 
 -- a number of k + n bytes is one of k bytes and one of n bytes after them
 pub le_split : (k n : ℕ) (s : List ℕ) (at : ℕ) → le (k + n) s at ≡ le k s at + 256 ^ k * le n s (at + k)
@@ -108,6 +115,21 @@ take-bytes zero s b k = lit< tt
 take-bytes (suc n) [] b k = lit< tt
 take-bytes (suc n) (x ∷ s) b zero = b 0
 take-bytes (suc n) (x ∷ s) b (suc k) = take-bytes n s (λ i. b (suc i)) k
+
+pub le_bytes_split : (k n v : ℕ) → le_bytes (k + n) v ≡ le_bytes k v ++ le_bytes n (v / 256 ^ k)
+unfolding le_bytes
+le_bytes_split zero n v = rw (zero-add, div-one)
+le_bytes_split (suc k) n v =
+    rw (suc-add, le_bytes_split k n (v / 256), pow-succ', div-div-eq-div-mul)
+
+-- bytes above the lowest k do not matter
+pub le_bytes_mod : (k v : ℕ) → le_bytes k (v % 256 ^ k) ≡ le_bytes k v
+unfolding le_bytes
+le_bytes_mod zero v = refl
+le_bytes_mod (suc k) v =
+    let split = mod-mul v {m = 256 ^ k} {c = 256} (one-le-pow k 256 (lit< tt)) (lit< tt) in
+    let less = mod-lt v {m = 256} (lit< tt) in
+    rw (pow-suc, split, digits_mod (v / 256 % 256 ^ k) less, digits_div (v / 256 % 256 ^ k) less, le_bytes_mod k (v / 256))
 
 -- the bytes that `to_le_bytes` gives from byte i on
 pub low_first : (i k v : ℕ) → bytes_low_first i k v ≡ le_bytes k (v / 256 ^ i)

@@ -1,10 +1,8 @@
 // Standard input, read to its end. Where a read fails there is no run.
 ghost use Rattle.std.specs.Prelude.{IfSome, ◌≤◌, length};
 
+use crate::CALLS;
 use std::io::{ErrorKind, Read};
-
-// A proved loop has to end, and nothing says that an input does. So many calls are enough for a run that goes byte by byte.
-const CALLS: u32 = 1048576;
 
 // Reads until the buffer is full or the input ends, and tells how many bytes it put at the front; none where a read fails. A read
 // that a signal interrupted did not fail: it is made again.

@@ -14,6 +14,10 @@ use std::io;
 use std::io::ErrorKind;
 use std::process::ExitCode;
 
+// A proved loop has to end, and nothing says that an input does. So many calls are enough for a run, or its reading, that goes
+// byte by byte.
+const CALLS: u32 = 1048576;
+
 // The status that a shell gives a program which the signal for a pipe that nobody reads has ended. The system ends no program of
 // Rattle's so: the write fails, and the program ends with this status.
 const UNREAD: u8 = 141;

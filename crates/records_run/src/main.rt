@@ -15,14 +15,24 @@ mod input;
 mod lent;
 mod reading;
 
-// As document 01 prints it. A write that fails is let go, here and below, and the next one is made.
+// A word and numbers, one write each. A write that fails is let go, here and below, and the next one is made.
+fn print_line(rt: &impl Print, word: &str, numbers: &[u64]) {
+    let _ = print!(rt; "{word}");
+    for n in numbers {
+        let _ = print!(rt; " ");
+        let _ = print!(rt; "{n}");
+    }
+    let _ = print!(rt; "\n");
+}
+
+// As document 01 prints it.
 fn print_refusal(rt: &impl Print, r: Refusal) {
-    let _ = println!(rt; "refused {} {}", number(r), place(r));
+    print_line(rt, "refused", &[number(r) as u64, place(r) as u64]);
 }
 
 fn print_accounts(rt: &impl Print, records: &[Account], a: usize) {
     for (k, r) in records.iter().take(a).enumerate() {
-        let _ = println!(rt; "account {k} {} {}", r.free, r.held);
+        print_line(rt, "account", &[k as u64, r.free, r.held]);
     }
 }
 
@@ -33,7 +43,7 @@ fn kept(records: &[Account], a: usize) -> usize {
 
 fn print_records(rt: &impl Print, records: &[Account], a: usize) {
     print_accounts(rt, records, a);
-    let _ = println!(rt; "kept {}", kept(records, a));
+    print_line(rt, "kept", &[kept(records, a) as u64]);
 }
 
 fn print_reading(

@@ -12,7 +12,11 @@ use state::load::load_sheet;
 fn is_taken(answer: Result<Option<usize>, Refusal>) -> bool
     ensures { result ≡ is_taken answer }
 {
-    matches!(answer, Ok(Some(_)))
+    match answer {
+        Ok(Some(_)) => true,
+        Err(_) => false,
+        Ok(None) => false,
+    }
 }
 
 fn say_taken(answer: Result<Option<usize>, Refusal>, told: &mut [u64]) -> u16

@@ -3,19 +3,10 @@ ghost use Rattle.std.specs.Prelude.{◌≤◌, ◌≡◌};
 ghost use Rattle.stored_runs.specs.Counts.{added};
 ghost use Rattle.sums.specs.Test.{bit};
 
-use std::fmt;
-use std::fmt::Display;
-
 #[derive(Clone, Copy, Default)]
 pub struct Tally {
     pub runs: u64,
     pub agree: u64,
-}
-
-impl Display for Tally {
-    fn fmt<W: fmt::Write>(&self, f: &mut fmt::Formatter<W>) -> fmt::Result {
-        write!(f, "{} runs, {} agree", self.runs, self.agree)
-    }
 }
 
 pub fn one_if(b: bool) -> u64

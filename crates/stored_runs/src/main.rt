@@ -7,12 +7,14 @@
 #![tactic(auto)]
 
 mod counts;
+mod input;
 mod texts;
 
 ghost use Rattle.std.specs.Prelude.{◌≤◌};
 
 use counts::{Tally, one_if, together};
 use fields::{front, u32_at};
+use input::read_full;
 use report::report::report_run;
 use std::io::Read;
 use std::{fs, io};
@@ -37,7 +39,7 @@ const GROUPS: [&str; 12] = [
 // Fills the first n bytes of a buffer from a file. Whether the buffer and the file have so many.
 fn fill<R: Read>(file: &mut R, space: &mut [u8], n: usize) -> bool {
     match space.get_mut(..n) {
-        Some(front) => file.read_exact(front).is_ok(),
+        Some(front) => read_full(file, front) == n,
         None => false,
     }
 }
@@ -72,12 +74,8 @@ fn agrees(run: &[u8], text: &[u8]) -> bool {
 // entry is cut off, or too long to be a run and its reading.
 fn next_entry<R: Read>(file: &mut R) -> Option<bool> {
     let mut head = [0u8; 8];
-    let got = file.read(&mut head).unwrap_or(0);
-    if got == 0 {
+    if read_full(file, &mut head) == 0 {
         return None;
-    }
-    if file.read_exact(&mut head[got..]).is_err() {
-        return Some(false);
     }
     let run = u32_at(&head, 0) as usize;
     let text = u32_at(&head, 4) as usize;
@@ -127,12 +125,22 @@ fn say_why(rt: &(impl Eprint + AllocGlobal), name: &str, error: io::Error) {
     }
 }
 
-// The entries of the file of a name, which are printed. A write that fails is let go, here and below.
+// A write that fails is let go, here and below, and the next one is made.
+fn print_tally(rt: &impl Print, found: Tally) {
+    let _ = print!(rt; "{}", found.runs);
+    let _ = print!(rt; " runs, ");
+    let _ = print!(rt; "{}", found.agree);
+    let _ = print!(rt; " agree\n");
+}
+
+// The entries of the file of a name, which are printed.
 fn group(rt: &HostRuntime, name: &str) -> Tally {
     match fs::open(rt, name) {
         Ok(mut file) => {
             let found = tally(&mut file);
-            let _ = println!(rt; "{name}: {found}");
+            let _ = print!(rt; "{name}");
+            let _ = print!(rt; ": ");
+            print_tally(rt, found);
             found
         }
         Err(error) => {
@@ -147,5 +155,5 @@ fn main(rt: HostRuntime) {
     for name in GROUPS {
         all = together(all, group(&rt, name));
     }
-    let _ = println!(&rt; "{all}");
+    print_tally(&rt, all);
 }

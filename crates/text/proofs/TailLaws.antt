@@ -27,6 +27,13 @@ length_zip [] b = omega arith
 length_zip (x ∷ a) [] = omega arith
 length_zip (x ∷ a) (y ∷ b) = omega (arith, length_zip a b)
 
+pub take_zip : (n : ℕ) (a b : List ℕ) → take n (zip a b) ≡ zip (take n a) (take n b)
+unfolding zip zip_with
+take_zip zero a b = refl
+take_zip (suc n) [] b = refl
+take_zip (suc n) (x ∷ a) [] = refl
+take_zip (suc n) (x ∷ a) (y ∷ b) = ap (λ l. (x, y) ∷ l) (take_zip n a b)
+
 pub zip_at : (a b : List ℕ) (k : ℕ) → k < length a → k < length b → get_or (zip a b) k (0, 0) ≡ (get_or a k 0, get_or b k 0)
 unfolding zip zip_with
 zip_at [] b k h u = absurd (omega arith)
